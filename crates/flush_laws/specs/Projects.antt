@@ -22,7 +22,8 @@ use Rattle.object_rows.specs.declared.prepared.Prepared.{Prepared}
 use Rattle.flush_laws.specs.Plans.Laws.{AreLoose, are_at}
 use Rattle.flush_laws.specs.Plans.Premises.{IsFit}
 use Rattle.row_project.specs.Changes.{project}
-use Rattle.row_switches.specs.Switch.{is_number, known_key, partners, place_of_new, with_switches}
+use Rattle.row_partners.specs.Partners.{known_key, partners, place_of_new}
+use Rattle.row_switches.specs.Switch.{is_number, with_switches}
 
 -- a changed row names columns of its table in order, each once, and none of the key
 abbrev pub HasOrder : Catalog → ChangedRow → Type 0

@@ -1,6 +1,6 @@
 //! What is done over a keeper in memory by those that do not own it.
 
-ghost use Rattle.std.specs.Prelude.{◌≡◌, None, IfErr};
+ghost use Rattle.std.specs.Prelude.{◌≡◌, ⊤, None, IfErr, IfOk};
 ghost use Rattle.base_core.specs.declared.refusal.Refusal.TheVariants.{Memory};
 ghost use Rattle.keeper_mem.specs.Kept.{moment_of};
 
@@ -11,16 +11,24 @@ use std::alloc::Global;
 
 /// What is done over a keeper that was given no target, whichever it is.
 pub trait OverKeepers {
+    /// What is so once it was done.
+    ghost is_done: { Self → Type 0 } = { λ _. ⊤ };
+
     /// Does it.
     fn run<K: Keeper>(&mut self, keeper: &mut K)
-        requires { (K.moment keeper.old).target ≡ None };
+        requires { (K.moment keeper.old).target ≡ None }
+        ensures { is_done self.new };
 }
 
 /// What is done over a keeper in memory that was given no target.
 pub trait OverMemory {
+    /// What is so once it was done.
+    ghost is_done: { Self → Type 0 } = { λ _. ⊤ };
+
     /// Does it.
     fn run(&mut self, keeper: &mut MemKeeper)
-        requires { (moment_of keeper.old).target ≡ None };
+        requires { (moment_of keeper.old).target ≡ None }
+        ensures { is_done self.new };
 }
 
 /// Does it over a new keeper in memory that fails the calls of these numbers. Who does it does not own the keeper, and knows nothing of
@@ -33,7 +41,8 @@ pub fn over_memory<P: OverKeepers>(
     failing: &[u64],
     program: &mut P,
 ) -> Result<(), Refusal>
-    ensures { IfErr result (λ e. e ≡ Memory) }
+    ensures done { IfOk result (λ _. P.is_done program.new) }
+    ensures refused { IfErr result (λ e. (e ≡ Memory) × (program.new ≡ program.old)) }
 {
     let mut keeper = Box::new(alloc, MemKeeper::new(alloc, failing)?)?;
     program.run(&mut *keeper);
@@ -49,7 +58,8 @@ pub fn over_new<P: OverMemory>(
     failing: &[u64],
     program: &mut P,
 ) -> Result<(), Refusal>
-    ensures { IfErr result (λ e. e ≡ Memory) }
+    ensures done { IfOk result (λ _. P.is_done program.new) }
+    ensures refused { IfErr result (λ e. (e ≡ Memory) × (program.new ≡ program.old)) }
 {
     let mut keeper = Box::new(alloc, MemKeeper::new(alloc, failing)?)?;
     program.run(&mut *keeper);

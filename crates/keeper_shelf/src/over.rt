@@ -1,6 +1,6 @@
 //! What is done over a keeper that may take a file by those that do not own it.
 
-ghost use Rattle.std.specs.Prelude.{◌≡◌, IfErr};
+ghost use Rattle.std.specs.Prelude.{◌≡◌, IfErr, IfOk};
 ghost use Rattle.base_core.specs.declared.refusal.Refusal.TheVariants.{Memory};
 
 use crate::shelf::Shelf;
@@ -17,7 +17,8 @@ pub fn over_shelf<D: Database + Drop, P: OverKeepers>(
     rt: HostRuntime,
     program: &mut P,
 ) -> Result<(), Refusal>
-    ensures { IfErr result (λ e. e ≡ Memory) }
+    ensures done { IfOk result (λ _. P.is_done program.new) }
+    ensures refused { IfErr result (λ e. (e ≡ Memory) × (program.new ≡ program.old)) }
 {
     let alloc = rt.alloc();
     let mut shelf = Box::new(alloc, Shelf::<D>::new(rt, alloc)?)?;

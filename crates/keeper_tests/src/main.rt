@@ -14,9 +14,8 @@ mod laws;
 
 use keeper_calls::two_tables;
 use laws::{one_open_key_alone, thousand_is_the_most};
-use memory_calls::play_in_memory;
 use notations::Page;
-use sqlite_calls::play_over_sqlite;
+use played_calls::{play_in_memory, play_over_sqlite};
 use sqlite_database::Database;
 use sqlite_links::{OverDatabases, over_sqlite};
 use std::alloc::AllocError;

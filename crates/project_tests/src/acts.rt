@@ -5,7 +5,7 @@ ghost use Rattle.std.specs.List.{All};
 ghost use Rattle.object_arena.specs.Fit.{IsFit};
 ghost use Rattle.object_arena.specs.Graph.{IsObject};
 
-use base_core::{AttrNo, ClassId, ListOf, ObjId, ObjList, Refusal, RelNo, Value};
+use base_core::{AttrNo, ClassId, ListOf, ObjId, ObjList, RelNo, Value};
 use class_mapping::Mapping;
 use graph_fits::{cell_fits, key_fits, link_fits};
 use notations::{Page, number, parted};
@@ -29,27 +29,21 @@ pub(crate) fn are_made(arena: &Arena, objects: &[ObjId]) -> bool
     }
 }
 
-fn make(mapping: &Mapping, arena: &mut Arena, class: ClassId) -> Result<(), Refusal>
+fn make(page: &mut Page, mapping: &Mapping, arena: &mut Arena, class: ClassId)
     requires configured { mapping.now.configured ≡ true }
     requires fit { IsFit mapping.now arena.old }
     ensures { IsFit mapping.now arena.new }
 {
     if class.0 >= mapping.count() {
-        return Err(Refusal::NotBuilt);
+        return page.lack();
     }
     match arena.make(mapping, class) {
-        Ok(_) => Ok(()),
-        Err(refusal) => Err(refusal),
+        Ok(_) => {}
+        Err(refusal) => page.note_done(Err(refusal)),
     }
 }
 
-fn register(
-    page: &mut Page,
-    mapping: &Mapping,
-    arena: &mut Arena,
-    object: ObjId,
-    words: &str,
-) -> Result<(), Refusal>
+fn register(page: &mut Page, mapping: &Mapping, arena: &mut Arena, object: ObjId, words: &str)
     requires configured { mapping.now.configured ≡ true }
     requires fit { IsFit mapping.now arena.old }
     requires object { IsObject arena.old object }
@@ -57,37 +51,32 @@ fn register(
 {
     let key = page.row(words);
     if !key_fits(mapping, arena.object(object).class, &key) {
-        return Err(Refusal::NotBuilt);
+        return page.lack();
     }
-    arena.register(object, key)
+    page.note_done(arena.register(object, key))
 }
 
 /// A pending object, with its add number.
-fn put_pending(
-    arena: &mut Arena,
-    mapping: &Mapping,
-    object: ObjId,
-    added: u32,
-) -> Result<(), Refusal>
+fn put_pending(page: &mut Page, mapping: &Mapping, arena: &mut Arena, object: ObjId, added: u32)
     requires fit { IsFit mapping.now arena.old }
     requires object { IsObject arena.old object }
     ensures { IsFit mapping.now arena.new }
 {
-    arena.put_marks(object, u64::from(added), false, false)?;
-    arena.put_state(object, State::Pending)
+    page.note_done(arena.put_marks(object, u64::from(added), false, false));
+    page.note_done(arena.put_state(object, State::Pending))
 }
 
 /// An object that was persistent is deleted or detached.
-fn put_state(arena: &mut Arena, mapping: &Mapping, object: ObjId, letter: u8) -> Result<(), Refusal>
+fn put_state(page: &mut Page, mapping: &Mapping, arena: &mut Arena, object: ObjId, letter: u8)
     requires fit { IsFit mapping.now arena.old }
     requires object { IsObject arena.old object }
     ensures { IsFit mapping.now arena.new }
 {
     let known = arena.object(object).identity.is_some();
     match letter {
-        b'g' if known => arena.put_state(object, State::Deleted),
-        b'd' if known => arena.put_state(object, State::Detached),
-        _ => Err(Refusal::NotBuilt),
+        b'g' if known => page.note_done(arena.put_state(object, State::Deleted)),
+        b'd' if known => page.note_done(arena.put_state(object, State::Detached)),
+        _ => page.lack(),
     }
 }
 
@@ -110,13 +99,7 @@ fn cell_of(page: &mut Page, words: &str) -> Cell {
 }
 
 /// Puts a cell in, where it fits.
-fn put_cell(
-    page: &mut Page,
-    arena: &mut Arena,
-    mapping: &Mapping,
-    object: ObjId,
-    words: &str,
-) -> Result<(), Refusal>
+fn put_cell(page: &mut Page, mapping: &Mapping, arena: &mut Arena, object: ObjId, words: &str)
     requires configured { mapping.now.configured ≡ true }
     requires fit { IsFit mapping.now arena.old }
     requires object { IsObject arena.old object }
@@ -126,14 +109,14 @@ fn put_cell(
     let attr = AttrNo(number(place));
     let attributes = mapping.attributes(arena.object(object).class);
     if attr.0 as usize >= attributes.len() {
-        return Err(Refusal::NotBuilt);
+        return page.lack();
     }
     let cell = cell_of(page, words);
     if !cell_fits(&attributes[attr.0 as usize], &cell) {
         drop(cell);
-        return Err(Refusal::NotBuilt);
+        return page.lack();
     }
-    arena.put_cell(object, attr, cell)
+    page.note_done(arena.put_cell(object, attr, cell))
 }
 
 /// Objects with commas between them; there may be none.
@@ -172,12 +155,12 @@ fn link_of(page: &mut Page, letter: u8, words: &str) -> Link {
 /// Puts a link in, where it fits.
 fn put_link(
     page: &mut Page,
-    arena: &mut Arena,
     mapping: &Mapping,
+    arena: &mut Arena,
     object: ObjId,
     letter: u8,
     words: &str,
-) -> Result<(), Refusal>
+)
     requires configured { mapping.now.configured ≡ true }
     requires fit { IsFit mapping.now arena.old }
     requires object { IsObject arena.old object }
@@ -187,14 +170,14 @@ fn put_link(
     let place = RelNo(number(place));
     let relations = mapping.relations(arena.object(object).class);
     if place.0 as usize >= relations.len() {
-        return Err(Refusal::NotBuilt);
+        return page.lack();
     }
     let link = link_of(page, letter, words);
     if !link_fits(arena, mapping, &relations[place.0 as usize], &link) {
         drop(link);
-        return Err(Refusal::NotBuilt);
+        return page.lack();
     }
-    arena.put_link(object, place, link)
+    page.note_done(arena.put_link(object, place, link))
 }
 
 /// What a word says of the preparation.
@@ -218,12 +201,12 @@ fn letter_of(word: &str) -> u8 {
 /// What a word says of an object that has been made.
 fn put(
     page: &mut Page,
-    arena: &mut Arena,
     mapping: &Mapping,
-    letter: u8,
+    arena: &mut Arena,
     object: ObjId,
+    letter: u8,
     words: &str,
-) -> Result<(), Refusal>
+)
     requires configured { mapping.now.configured ≡ true }
     requires fit { IsFit mapping.now arena.old }
     requires object { IsObject arena.old object }
@@ -231,21 +214,21 @@ fn put(
 {
     match letter {
         b'k' => register(page, mapping, arena, object, words),
-        b'p' => put_pending(arena, mapping, object, number(words)),
-        b'c' => put_cell(page, arena, mapping, object, words),
-        b'e' | b'm' | b'l' => put_link(page, arena, mapping, object, letter, words),
-        _ => put_state(arena, mapping, object, letter),
+        b'p' => put_pending(page, mapping, arena, object, number(words)),
+        b'c' => put_cell(page, mapping, arena, object, words),
+        b'e' | b'm' | b'l' => put_link(page, mapping, arena, object, letter, words),
+        _ => put_state(page, mapping, arena, object, letter),
     }
 }
 
-/// What a word says of the graph or of the preparation.
+/// What a word says of the graph or of the preparation. The page notes a word that says nothing of them.
 pub(crate) fn act(
     page: &mut Page,
-    arena: &mut Arena,
     mapping: &Mapping,
+    arena: &mut Arena,
     prepared: &mut Prepared,
     word: &str,
-) -> Result<(), Refusal>
+)
     requires configured { mapping.now.configured ≡ true }
     requires fit { IsFit mapping.now arena.old }
     ensures { IsFit mapping.now arena.new }
@@ -255,14 +238,13 @@ pub(crate) fn act(
     let (first, words) = parted(words, ':');
     let object = ObjId(number(first));
     if letter == b'n' {
-        return make(mapping, arena, ClassId(number(first)));
+        return make(page, mapping, arena, ClassId(number(first)));
     }
     if letter.is_ascii_uppercase() {
-        prepare(page, prepared, letter, object, RelNo(number(words)));
-        return Ok(());
+        return prepare(page, prepared, letter, object, RelNo(number(words)));
     }
     if !is_made(arena, object) {
-        return Err(Refusal::NotBuilt);
+        return page.lack();
     }
-    put(page, arena, mapping, letter, object, words)
+    put(page, mapping, arena, object, letter, words)
 }

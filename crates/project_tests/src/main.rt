@@ -19,21 +19,20 @@ mod changes;
 mod mapping;
 mod player;
 
-use base_core::Refusal;
 use class_types::Hooks;
 use notations::Page;
 use player::tell_group;
-use std::alloc::Global;
+use std::alloc::{AllocError, Global};
 use std::io;
 
 /// The answers to all groups.
-fn answers(alloc: Global, text: &str) -> Result<String, Refusal> {
+fn answers(alloc: Global, text: &str) -> Result<String, AllocError> {
     let mut page = Page::new(alloc);
     let hooks = Hooks::new(alloc);
     for group in text.split("\n\n") {
-        tell_group(&hooks, group, &mut page)?;
+        tell_group(&hooks, group, &mut page);
     }
-    Ok(page.into_text()?)
+    page.into_text()
 }
 
 fn main(rt: HostRuntime) -> io::Result<()> {

@@ -1,7 +1,7 @@
 //! The classes of the graphs, from a line.
 
 use crate::acts::known;
-use base_core::{ListOf, Name, Refusal};
+use base_core::{ListOf, Name};
 use class_mapping::{ClassSpec, Mapping, RelationSpec};
 use class_types::Hooks;
 use notations::{Page, parted};
@@ -68,47 +68,35 @@ fn class(page: &mut Page, line: &str) -> ClassSpec {
 }
 
 /// Declares the table of a line, where a number is left for it.
-fn declare_table(page: &mut Page, mapping: &mut Mapping, line: &str) -> Result<(), Refusal> {
-    if mapping.schema().count() == u32::MAX {
-        return Err(Refusal::NotBuilt);
-    }
+fn declare_table(page: &mut Page, mapping: &mut Mapping, line: &str) {
     let spec = page.table(line);
-    match mapping.declare_table(spec) {
-        Ok(_) => Ok(()),
-        Err(refusal) => Err(refusal),
+    if mapping.schema().count() < u32::MAX {
+        match mapping.declare_table(spec) {
+            Ok(_) => {}
+            Err(refusal) => page.note_done(Err(refusal)),
+        }
     }
 }
 
 /// Declares the class of a line, where a number is left for it.
-fn declare_class(
-    page: &mut Page,
-    mapping: &mut Mapping,
-    hooks: &Hooks,
-    line: &str,
-) -> Result<(), Refusal> {
-    if mapping.count() == u32::MAX {
-        return Err(Refusal::NotBuilt);
-    }
+fn declare_class(page: &mut Page, mapping: &mut Mapping, hooks: &Hooks, line: &str) {
     let spec = class(page, line);
-    match mapping.declare_class(spec, hooks) {
-        Ok(_) => Ok(()),
-        Err(refusal) => Err(refusal),
+    if mapping.count() < u32::MAX {
+        match mapping.declare_class(spec, hooks) {
+            Ok(_) => {}
+            Err(refusal) => page.note_done(Err(refusal)),
+        }
     }
 }
 
-/// Declares the tables and classes of a line, and configures the mapping.
-pub(crate) fn declare_all(
-    page: &mut Page,
-    mapping: &mut Mapping,
-    hooks: &Hooks,
-    line: &str,
-) -> Result<(), Refusal> {
+/// Declares the tables and classes of a line, and configures the mapping. The page notes what is refused.
+pub(crate) fn declare_all(page: &mut Page, mapping: &mut Mapping, hooks: &Hooks, line: &str) {
     let (tables, classes) = parted(line, '|');
     for table in tables.split(';') {
-        declare_table(page, mapping, table)?;
+        declare_table(page, mapping, table);
     }
     for class in classes.split(';') {
-        declare_class(page, mapping, hooks, class)?;
+        declare_class(page, mapping, hooks, class);
     }
-    mapping.configure()
+    page.note_done(mapping.configure())
 }

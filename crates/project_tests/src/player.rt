@@ -6,7 +6,7 @@ ghost use Rattle.object_arena.specs.Fit.{IsFit};
 use crate::acts::{act, are_made};
 use crate::changes::put_changes;
 use crate::mapping::declare_all;
-use base_core::{ListOf, Refusal};
+use base_core::ListOf;
 use class_mapping::Mapping;
 use class_types::Hooks;
 use notations::{Page, parted};
@@ -16,42 +16,27 @@ use row_project::project;
 use std::alloc::Global;
 
 /// Makes the graph and the preparation that the words of a line tell.
-fn make(
-    page: &mut Page,
-    mapping: &Mapping,
-    arena: &mut Arena,
-    prepared: &mut Prepared,
-    line: &str,
-) -> Result<(), Refusal>
+fn make(page: &mut Page, mapping: &Mapping, arena: &mut Arena, prepared: &mut Prepared, line: &str)
     requires configured { mapping.now.configured ≡ true }
     requires fit { IsFit mapping.now arena.old }
     ensures { IsFit mapping.now arena.new }
 {
     for word in line.split(' ') {
-        act(page, arena, mapping, prepared, word)?;
+        act(page, mapping, arena, prepared, word);
     }
-    Ok(())
 }
 
 /// Tells what a flush of a graph changes.
-fn tell_changes(
-    mapping: &Mapping,
-    arena: &Arena,
-    prepared: &Prepared,
-    page: &mut Page,
-) -> Result<(), Refusal>
+fn tell_changes(mapping: &Mapping, arena: &Arena, prepared: &Prepared, page: &mut Page)
     requires configured { mapping.now.configured ≡ true }
     requires fit { IsFit mapping.now arena.now }
 {
     if !are_made(arena, prepared.deleted.as_slice()) {
-        return Err(Refusal::NotBuilt);
+        return page.lack();
     }
     match project(page.alloc(), arena, mapping, prepared) {
-        Ok(changes) => {
-            put_changes(page, mapping.schema(), &changes);
-            Ok(())
-        }
-        Err(refusal) => Err(refusal),
+        Ok(changes) => put_changes(page, mapping.schema(), &changes),
+        Err(refusal) => page.note_done(Err(refusal)),
     }
 }
 
@@ -65,39 +50,35 @@ fn nothing_prepared(alloc: Global) -> Prepared {
 }
 
 /// Makes a graph from nothing, and tells what a flush of it changes.
-fn graph(mapping: &Mapping, line: &str, page: &mut Page) -> Result<(), Refusal>
+fn tell_graph(mapping: &Mapping, line: &str, page: &mut Page)
     requires configured { mapping.now.configured ≡ true }
 {
     let mut arena = Arena::new(page.alloc());
     let mut prepared = nothing_prepared(page.alloc());
-    match make(page, mapping, &mut arena, &mut prepared, line) {
-        Ok(()) => tell_changes(mapping, &arena, &prepared, page),
-        Err(refusal) => Err(refusal),
-    }
+    make(page, mapping, &mut arena, &mut prepared, line);
+    tell_changes(mapping, &arena, &prepared, page)
 }
 
 /// The answers to the lines of a group.
-fn tell_graphs(mapping: &Mapping, lines: &str, page: &mut Page) -> Result<(), Refusal>
+fn tell_graphs(mapping: &Mapping, lines: &str, page: &mut Page)
     requires configured { mapping.now.configured ≡ true }
 {
     for line in lines.lines() {
         if line.starts_with('#') {
             page.put(line);
         } else {
-            graph(mapping, line, page)?;
+            tell_graph(mapping, line, page);
         }
         page.push('\n');
     }
-    Ok(())
 }
 
 /// The answers to a group, of which the first line has the declarations.
-pub(crate) fn tell_group(hooks: &Hooks, group: &str, page: &mut Page) -> Result<(), Refusal> {
+pub(crate) fn tell_group(hooks: &Hooks, group: &str, page: &mut Page) {
     let (declarations, lines) = parted(group, '\n');
     let mut mapping = Mapping::new(page.alloc());
-    declare_all(page, &mut mapping, hooks, declarations)?;
-    if !mapping.is_configured() {
-        return Err(Refusal::NotBuilt);
+    declare_all(page, &mut mapping, hooks, declarations);
+    if mapping.is_configured() {
+        tell_graphs(&mapping, lines, page);
     }
-    tell_graphs(&mapping, lines, page)
 }

@@ -23,6 +23,7 @@ use Rattle.object_rows.specs.declared.prepared.Prepared.{Prepared}
 use Rattle.object_rows.specs.Rows as rows
 use Rattle.row_project.specs.Changes.{object_changes, project}
 use Rattle.row_project.specs.Ready.{AreDeclared, AreFew}
+use Rattle.row_partners.specs.Partners as switching
 use Rattle.row_switches.specs.Switch as switch
 use Rattle.row_project.proofs.Declared.{column_of, columns_below, objects_declared, same_column}
 use Rattle.row_switches.proofs.Each.{all_append, all_filter_map}
@@ -63,7 +64,7 @@ module _ (mapped : Mapped) (graph : Graph) (changes : RowChanges) (partners : Li
 pub project_declared : (mapped : Mapped) (graph : Graph) (prepared : Prepared) → AreRelated mapped → IsFit mapped graph → AreDeclared mapped.schema (project mapped graph prepared)
 project_declared mapped graph prepared related fit =
     let plain = object_changes mapped graph prepared in
-    switch_declared mapped graph plain (switch.partners mapped.schema plain) (objects_declared mapped graph prepared related fit)
+    switch_declared mapped graph plain (switching.partners mapped.schema plain) (objects_declared mapped graph prepared related fit)
 
 in_range : (schema : Catalog) (changes : RowChanges) → AreDeclared schema changes → AreFew changes → length schema.tables ≤ 4294967295 → All (λ (spec : TableSpec). length spec.columns ≤ 4294967295) schema.tables → AreInRange schema changes
 in_range schema changes are few tables narrow = record {

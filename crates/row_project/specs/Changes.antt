@@ -9,7 +9,7 @@ use Rattle.object_rows.specs.declared.prepared.Prepared.{Prepared}
 use Rattle.object_rows.specs.Late.{late_keys}
 use Rattle.object_rows.specs.Rows.{changed_rows, gone_rows, new_rows}
 use Rattle.pair_rows.specs.Pairs.{lost_rows, made_rows}
-use Rattle.link_warnings.specs.Warnings.{warnings}
+use Rattle.row_project.specs.Warnings.{warnings}
 use Rattle.row_switches.specs.Switch.{with_switches}
 
 -- the new rows of objects in the order of adding, and then those of pairs

@@ -12,9 +12,9 @@ ghost use Rattle.row_project.specs.Changes as spec;
 ghost use Rattle.row_project.specs.Changes.{project};
 ghost use Rattle.row_project.specs.Ready.{AreFew};
 
+use crate::outside::warnings;
 use base_core::{ListOf, Refusal, TableId};
 use class_mapping::Mapping;
-use link_warnings::warnings;
 use object_arena::Arena;
 use object_rows::{Prepared, late_keys, new_names};
 use object_writes::{Projection, gone_rows};

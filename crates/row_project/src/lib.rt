@@ -2,5 +2,6 @@
 #![tactic(auto)]
 
 mod changes;
+mod outside;
 
 pub use changes::{object_changes, project};

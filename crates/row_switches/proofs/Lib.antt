@@ -1,4 +1,3 @@
 pub mod Each
-pub mod PartnerSteps
 pub mod RowsAfter
 pub mod SwitchSteps

@@ -1,54 +1,17 @@
--- Steps of the search for switched rows.
-use Rattle.std.proofs.Common.{◌≡◌, ℕ, zero, suc, ◌+◌, ◌<◌, ◌≤◌, Bool, true, false, cond, not, ◌&&◌, ◌||◌, List, [], ◌∷◌, ◌++◌, length, take, get_or, refl, sym, ap, ◌∙◌, arith}
-use Rattle.std.proofs.Math.Seq.{take-suc}
-use Rattle.std.proofs.lemmas.List.{take_all}
-use Rattle.std.proofs.lemmas.List.FromFn.{get_or-map-range_with_len, length-map-range_with_len}
+-- Steps of the loops over rows that are switched, kept or left.
+use Rattle.std.proofs.Common.{◌≡◌, ℕ, zero, suc, ◌+◌, ◌<◌, Bool, true, false, cond, List, [], ◌∷◌, ◌++◌, length, take, get_or, refl, sym, ap, ◌∙◌, arith, ◌-◌}
 use Rattle.std.proofs.lemmas.Option.{get_or_from_slice_get}
 use Rattle.std.proofs.lemmas.List.Quantifiers.{position-Some}
-use Rattle.std.specs.Prelude.{Option, None, Some, nat_eq, slice_get, slice_index_or}
-use Rattle.std.specs.BTreeMap.{is_at}
-use Rattle.base_core.proofs.Tests.{then_equal}
-use Rattle.base_core.specs.Order.{values_cmp}
+use Rattle.std.specs.Prelude.{Option, None, Some, slice_get, slice_index_or}
+use Rattle.std.specs.List.{cons_option, filter_map}
 use Rattle.schema_core.specs.declared.changes.GoneRow.{GoneRow}
 use Rattle.schema_core.specs.declared.changes.RowChanges.{RowChanges}
 use Rattle.schema_core.specs.Catalog.{Catalog}
-use Rattle.schema_core.specs.Tables.{has_null, same_values, table_cmp}
+use Rattle.schema_core.specs.Tables.{has_null}
 use Rattle.flush_order.specs.Orders.{gone_at, no_gone, place_of_gone}
-use Rattle.flush_order.specs.Sorted.{Place, place_cmp, same_place}
-use Rattle.object_rows.proofs.PlaceSteps.{number_same}
-use Rattle.row_switches.specs.Switch.{gone_under, gone_unless_taken, is_taken, known_key, partner_of, partners, place_of_new}
-
--- the order of rows by table and key tells two places apart where they differ
-pub is_same : (one other : Place) → is_at (place_cmp one) other ≡ same_place one other
-is_same one other = sym (then_equal (table_cmp one.0 other.0) (values_cmp one.1 other.1)) ∙ ap (λ b. b && same_values one.1 other.1) (number_same one.0.0 other.0.0)
-
-pub ruleset place_steps = (is_same)
-
--- ---- the partner of each new row
-
-pub partners_length : (schema : Catalog) (changes : RowChanges) → length (partners schema changes) ≡ length changes.fresh
-unfolding partners
-partners_length schema changes = length-map-range_with_len (partner_of schema changes) 0 (length changes.fresh)
-
-pub partner_at : (schema : Catalog) (changes : RowChanges) (n : ℕ) (d : Option ℕ) → n < length changes.fresh → get_or (partners schema changes) n d ≡ partner_of schema changes n
-unfolding partners
-partner_at schema changes n d h = get_or-map-range_with_len (partner_of schema changes) 0 (length changes.fresh) n n d h (omega arith)
-
--- one more
-pub partners_more : (schema : Catalog) (changes : RowChanges) (n : ℕ) → n < length changes.fresh → take (n + 1) (partners schema changes) ≡ take n (partners schema changes) ++ partner_of schema changes n ∷ []
-partners_more schema changes n h =
-    let inside : n < length (partners schema changes) = rw (partners_length schema changes) h in
-    let next : n + 1 ≡ suc n = omega arith in
-    ap (λ m. take m (partners schema changes)) next ∙ take-suc (partners schema changes) n (partner_of schema changes n) inside
-    ∙ ap (λ partner. take n (partners schema changes) ++ partner ∷ []) (partner_at schema changes n (partner_of schema changes n) h)
-
--- no more
-pub partners_end : (schema : Catalog) (changes : RowChanges) (n : ℕ) → length changes.fresh ≤ n → take n (partners schema changes) ≡ partners schema changes
-partners_end schema changes n h =
-    let over : length (partners schema changes) ≤ n = rw (partners_length schema changes) h in
-    take_all n (partners schema changes) over
-
-pub ruleset partner_steps = (partners_more, partners_end)
+use Rattle.flush_order.specs.Sorted.{same_place}
+use Rattle.row_partners.specs.Partners.{gone_under, gone_unless_taken, is_taken, known_key, partner_of, partners, place_of_new}
+use Rattle.row_partners.proofs.PartnerSteps.{partner_at, partners_length}
 
 -- ---- switched rows have places
 
@@ -79,3 +42,21 @@ pub gone_is : (changes : RowChanges) (place : ℕ) (row : GoneRow) → slice_get
 gone_is changes place row e = get_or_from_slice_get changes.gone place row no_gone e
 
 pub ruleset within_steps = (switched_within, gone_within, gone_is)
+
+-- ---- rows that are kept
+
+behind_first : {A : Type 0} (found : Option A) (xs ys : List A) → cons_option found xs ++ ys ≡ cons_option found (xs ++ ys)
+behind_first None xs ys = refl
+behind_first (Some x) xs ys = refl
+
+one_kept : {A B : Type 0} (f : A → Option B) (xs : List A) (i : ℕ) (x : A) → i < length xs → x ≡ get_or xs i x → filter_map f (take i xs) ++ filter_map f (x ∷ []) ≡ filter_map f (take (suc i) xs)
+one_kept f [] i x h e = absurd (omega (arith, h))
+one_kept f (y ∷ xs) zero x h e = ap (λ z. cons_option (f z) []) e
+one_kept {B = B} f (y ∷ xs) (suc i) x h e =
+    behind_first (f y) (filter_map f (take i xs)) (filter_map f (x ∷ [])) ∙ ap (cons_option (f y)) (one_kept f xs i x (omega (arith, h)) e)
+
+-- one more item is kept or left out
+pub kept_more : {A B : Type 0} (f : A → Option B) (xs : List A) (i : ℕ) (x : A) (was is : List B) → i < length xs → x ≡ get_or xs i x → was ≡ filter_map f (take i xs) → is ≡ was ++ filter_map f (x ∷ []) → is ≡ filter_map f (take (i + 1) xs)
+kept_more {A = A} {B = B} f xs i x was is h e before step =
+    let next : suc i ≡ i + 1 = omega arith in
+    step ∙ ap (λ (own : List B). own ++ filter_map f (x ∷ [])) before ∙ one_kept f xs i x h e ∙ ap (λ n. filter_map f (take n xs)) next

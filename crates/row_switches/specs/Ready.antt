@@ -3,7 +3,8 @@ use Rattle.std.specs.Prelude.{◌≡◌, true}
 use Rattle.object_arena.specs.Fit.{IsFit}
 use Rattle.flush_order.specs.Ready.{AreInRange, AreReady}
 use Rattle.row_switches.specs.declared.cells.Switch.{Switch}
-use Rattle.row_switches.specs.Switch.{numbers_from, partners}
+use Rattle.row_partners.specs.Partners.{partners}
+use Rattle.row_switches.specs.Switch.{numbers_from}
 
 -- the mapping is configured, the objects fit it, the new rows are made ready, and the partners and numbers are those of the changes
 pub record IsSwitch (switch : Switch) : Type 0 where

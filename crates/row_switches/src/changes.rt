@@ -9,12 +9,12 @@ ghost use Rattle.row_switches.specs.Switch.{changes_by, rows_kept, rows_switched
 
 use crate::cells::{Switch, numbers_among};
 use crate::joined::both;
-use crate::partners::partners;
 use crate::staying::rows_left;
 use base_core::{Copied, ListOf, Refusal};
 use class_mapping::Mapping;
 use flush_order::{NewRows, ready_rows};
 use object_arena::Arena;
+use row_partners::partners;
 use schema_core::{ChangedRow, RowChanges};
 use std::alloc::Global;
 

@@ -1,6 +1,6 @@
 //! Two answers as one.
 
-ghost use Rattle.std.specs.Prelude.{◌≡◌, IfOk, IfErr, Ok};
+ghost use Rattle.std.specs.Prelude.{◌≡◌, IfOk, IfErr, IsOk, Ok, Err};
 ghost use Rattle.base_core.specs.declared.refusal.Refusal.TheVariants.{Memory};
 
 use base_core::Refusal;
@@ -11,6 +11,9 @@ pub fn both<A: Drop, B: Drop>(
     b: Result<B, Refusal>,
 ) -> Result<(A, B), Refusal>
     ensures both { IfOk result (λ it. (a ≡ Ok it.0) × (b ≡ Ok it.1)) }
+    ensures whole { IsOk a → IsOk b → IsOk result }
+    ensures first { IfErr a (λ e. result ≡ Err e) }
+    ensures second { IsOk a → IfErr b (λ e. result ≡ Err e) }
     ensures cause { IfErr a (λ e. e ≡ Memory) → IfErr b (λ e. e ≡ Memory)
         → IfErr result (λ e. e ≡ Memory) }
 {

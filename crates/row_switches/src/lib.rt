@@ -4,7 +4,6 @@
 mod cells;
 mod changes;
 mod joined;
-mod partners;
 mod staying;
 mod switched;
 

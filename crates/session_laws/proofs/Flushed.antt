@@ -42,9 +42,10 @@ use Rattle.row_order.specs.Places.{first_places, least_left, order, order_or_cyc
 use Rattle.flush_order.specs.Sorted.{sorted_numbers}
 use Rattle.flush_plan.specs.Planning.{late_in, plan}
 use Rattle.pair_rows.specs.Pairs.{Pair, as_set, has_key, is_made, is_parted, lost_by, lost_from, lost_of, lost_pairs, lost_row, lost_rows, made_by, made_from, made_of, made_pairs, made_row, made_rows, members_added, members_before, members_removed, pair_of, relations_at, without}
-use Rattle.link_warnings.specs.Warnings.{warnings}
+use Rattle.row_project.specs.Warnings.{warnings}
 use Rattle.row_project.specs.Changes.{object_changes, rows_lost}
-use Rattle.row_switches.specs.Switch.{partners, with_switches}
+use Rattle.row_partners.specs.Partners.{partners}
+use Rattle.row_switches.specs.Switch.{with_switches}
 use Rattle.touching.proofs.Exact.{value_itself}
 use Rattle.graph_flushed.specs.Flushed.{Written, deleted_object, graph_written, held_cell, held_or, kept_cell, kept_link, key_of, new_cell, new_object, new_value, object_flushed, object_in, prepared_links, staying_cell, staying_object, state_under, state_unless, value_come}
 use Rattle.graph_flushed.specs.Keys.{new_holder}

@@ -1,6 +1,6 @@
 //! The shipped validators, and who is lent them.
 
-ghost use Rattle.std.specs.Prelude.{◌≡◌, None, IfErr, IfOk};
+ghost use Rattle.std.specs.Prelude.{◌≡◌, ⊤, None, IfErr, IfOk};
 ghost use Rattle.base_core.specs.declared.refusal.Refusal.TheVariants.{Memory};
 ghost use Rattle.class_types.specs.Shown.{rules_of};
 ghost use Rattle.shipped_validators.specs.Shipped.{shipped_rules};
@@ -12,10 +12,14 @@ use std::alloc::Global;
 
 /// What is done with validators over a keeper that was given no target.
 pub trait WithValidators {
+    /// What is so once it was done.
+    ghost is_done: { Self → Type 0 } = { λ _. ⊤ };
+
     /// Does it with the shipped ones.
     fn run<K: Keeper>(&mut self, keeper: &mut K, hooks: &Hooks)
         requires fresh { (K.moment keeper.old).target ≡ None }
-        requires shipped { rules_of hooks.now ≡ shipped_rules };
+        requires shipped { rules_of hooks.now ≡ shipped_rules }
+        ensures { is_done self.new };
 }
 
 /// The name of a validator.
@@ -37,7 +41,8 @@ pub fn with_shipped<K: Keeper, P: WithValidators>(
     program: &mut P,
 ) -> Result<(), Refusal>
     requires { (K.moment keeper.old).target ≡ None }
-    ensures { IfErr result (λ e. e ≡ Memory) }
+    ensures done { IfOk result (λ _. P.is_done program.new) }
+    ensures refused { IfErr result (λ e. (e ≡ Memory) × (program.new ≡ program.old)) }
 {
     let mut hooks = Hooks::new(alloc);
     let positive = Box::new(alloc, |value: &Value| is_positive(value))?;

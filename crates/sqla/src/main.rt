@@ -1,7 +1,7 @@
 //! The program `sqla`: a script from standard input, done over a keeper in memory or in a file, and answered to standard output.
 #![tactic(auto)]
 
-ghost use Rattle.std.specs.Prelude.{◌≡◌, None};
+ghost use Rattle.std.specs.Prelude.{◌≡◌, None, IsSome};
 
 use byte_streams::{StdSink, StdSource};
 use class_types::Hooks;
@@ -54,25 +54,29 @@ fn status_without_words(rt: &(impl Print + AllocGlobal), kind: io::ErrorKind) ->
     }
 }
 
-/// A run with these words, and how it ended.
+/// A run with these words, and how it ended once it was done.
 #[derive(Drop)]
 struct ScriptRun<'x> {
     rt: HostRuntime,
     words: &'x Vec<String>,
-    status: Status,
+    status: Option<Status>,
 }
 
 impl OverKeepers for ScriptRun<'_> {
+    ghost is_done = { λ s. IsSome s.status };
+
     fn run<K: Keeper>(&mut self, keeper: &mut K) {
         if with_shipped(self.rt.alloc(), keeper, self).is_err() {
-            self.status = Status::Memory;
+            self.status = Some(Status::Memory);
         }
     }
 }
 
 impl WithValidators for ScriptRun<'_> {
+    ghost is_done = { λ s. IsSome s.status };
+
     fn run<K: Keeper>(&mut self, keeper: &mut K, hooks: &Hooks) {
-        self.status = run_streams(&self.rt, self.words, keeper, hooks);
+        self.status = Some(run_streams(&self.rt, self.words, keeper, hooks));
     }
 }
 
@@ -81,10 +85,10 @@ fn run_words<D: Database + Drop>(rt: HostRuntime, words: &Vec<String>) -> Status
     let mut program = ScriptRun {
         rt,
         words,
-        status: Status::Memory,
+        status: None,
     };
     match over_shelf::<D, _>(rt, &mut program) {
-        Ok(()) => program.status,
+        Ok(()) => program.status.unwrap(),
         Err(_) => Status::Memory,
     }
 }

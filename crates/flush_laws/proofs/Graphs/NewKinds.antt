@@ -7,9 +7,9 @@ use Rattle.object_rows.specs.declared.prepared.Prepared.{Prepared}
 use Rattle.object_rows.specs.Rows.{new_rows}
 use Rattle.pair_rows.specs.Pairs.{made_rows}
 use Rattle.row_project.specs.Changes.{object_changes}
-use Rattle.row_switches.specs.Switch.{partners}
+use Rattle.row_partners.specs.Partners.{partners}
 use Rattle.row_switches.proofs.Each.{all_append}
-use Rattle.row_switches.proofs.SwitchSteps.{partners_length}
+use Rattle.row_partners.proofs.PartnerSteps.{partners_length}
 use Rattle.flush_laws.proofs.Projects.Rows.{plain_whole}
 use Rattle.flush_laws.specs.Graphs.{ForeignKeysAreOfOneKind, HasOneKind, IsWellMapped}
 use Rattle.flush_laws.proofs.Graphs.MappingFacts.{free_law}

@@ -15,7 +15,7 @@ use Rattle.object_rows.specs.declared.prepared.Prepared.{Prepared}
 use Rattle.object_rows.specs.Rows.{gone_rows}
 use Rattle.pair_rows.specs.Pairs.{lost_rows}
 use Rattle.row_project.specs.Changes.{object_changes, project}
-use Rattle.row_switches.specs.Switch.{partners}
+use Rattle.row_partners.specs.Partners.{partners}
 use Rattle.row_switches.proofs.Each.{all_append}
 use Rattle.row_project.proofs.Range.{project_declared}
 use Rattle.row_switches.proofs.RowsAfter.{all_left}

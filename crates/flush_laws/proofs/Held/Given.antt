@@ -63,7 +63,8 @@ use Rattle.object_rows.specs.Seen.{is_new, keeps_rows, new_objects, object_ids, 
 use Rattle.object_rows.proofs.ObjectSteps.{all_made, names_made}
 use Rattle.pair_rows.specs.Pairs as pairs
 use Rattle.row_project.specs.Changes.{object_changes, project}
-use Rattle.row_switches.specs.Switch.{known_key, partners, row_kept, row_switched, rows_kept, rows_switched, switch_of}
+use Rattle.row_partners.specs.Partners.{known_key, partners}
+use Rattle.row_switches.specs.Switch.{row_kept, row_switched, rows_kept, rows_switched, switch_of}
 use Rattle.flush_laws.proofs.Plans.Between.{legal_cells, legal_key}
 use Rattle.flush_laws.proofs.Projects.Apart.{none_given}
 use Rattle.flush_laws.proofs.Projects.LateKeys.{each_has}

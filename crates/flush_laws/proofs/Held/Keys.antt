@@ -21,9 +21,11 @@ use Rattle.class_mapping.proofs.Lists.{or_left, or_right}
 use Rattle.object_arena.specs.Graph.{Graph}
 use Rattle.flush_order.specs.Cells.{cells_cleared, first_cells, is_late, key_parts, known_value, new_at, no_row, part_at, table_at}
 use Rattle.flush_plan.specs.Flushing.{Keys, key_of_new, value_of_cell}
-use Rattle.row_switches.specs.Switch.{cell_after_switch, known_key, numbers_from, partners, row_staying, rows_staying, with_switches}
+use Rattle.row_partners.specs.Partners.{known_key, partners}
+use Rattle.row_switches.specs.Switch.{cell_after_switch, numbers_from, row_staying, rows_staying, with_switches}
+use Rattle.row_partners.specs.Partners as switching
 use Rattle.row_switches.specs.Switch as switch
-use Rattle.row_switches.proofs.SwitchSteps.{partner_at, partners_length}
+use Rattle.row_partners.proofs.PartnerSteps.{partner_at, partners_length}
 use Rattle.flush_laws.proofs.Plans.Facts.{true_false}
 use Rattle.flush_laws.proofs.Plans.Referring.{AllDrawn, Drawn, key_map}
 use Rattle.flush_laws.specs.Projects.{IsWhole}
@@ -269,7 +271,7 @@ module _ (mapped : Mapped) (graph : Graph) (first : RowChanges) (whole : AllByRe
 
   -- a switched row's key is wholly known
   pub whole_key : (q gone : ℕ) → q < length first.fresh → get_or (partners mapped.schema first) q None ≡ Some gone → has_null (known_key mapped.schema first q) ≡ false
-  whole_key q gone less e = false_none (has_null (known_key mapped.schema first q)) (switch.gone_unless_taken mapped.schema first (switch.place_of_new mapped.schema first q) q) gone (sym (partner_at mapped.schema first q None less) ∙ e)
+  whole_key q gone less e = false_none (has_null (known_key mapped.schema first q)) (switching.gone_unless_taken mapped.schema first (switching.place_of_new mapped.schema first q) q) gone (sym (partner_at mapped.schema first q None less) ∙ e)
 
   pub same_key : (q p : ℕ) → q < length first.fresh → p < length first.fresh → length (key_columns (spec_of mapped.schema (table_at first q))) ≡ length (key_columns (spec_of mapped.schema (table_at first p)))
       → ((i : ℕ) → i < length (key_columns (spec_of mapped.schema (table_at first q))) → part_at mapped.schema first q i ≡ KeyOf p i) → row_key q ≡ row_key p

@@ -48,7 +48,7 @@ use Rattle.object_rows.specs.Rows.{cell_for, cell_or, is_discriminator, is_joine
 use Rattle.object_rows.specs.Seen.{is_new, new_objects, object_ids, with_queued}
 use Rattle.object_rows.proofs.PlaceSteps.{number_same}
 use Rattle.row_project.specs.Changes.{object_changes}
-use Rattle.row_switches.specs.Switch.{partners}
+use Rattle.row_partners.specs.Partners.{partners}
 use Rattle.flush_laws.proofs.Plans.Between.{legal_cells, legal_key}
 use Rattle.flush_laws.proofs.Projects.Loose.{has_place}
 use Rattle.flush_laws.proofs.Held.Lists.{has_range}

@@ -47,7 +47,8 @@ use Rattle.object_rows.specs.Rows as rows
 use Rattle.object_rows.specs.Rows.{cell_for, columns_at, gone_cell, gone_row, in_column, is_at, is_base, is_joined, key_part, linked_change, value_before}
 use Rattle.pair_rows.specs.Pairs.{lost_rows}
 use Rattle.row_project.specs.Changes.{object_changes, project}
-use Rattle.row_switches.specs.Switch.{cell_after_switch, cell_switched, is_unread, known_key, partners, row_switched, rows_kept, rows_switched, switch_of, value_gone}
+use Rattle.row_partners.specs.Partners.{known_key, partners}
+use Rattle.row_switches.specs.Switch.{cell_after_switch, cell_switched, is_unread, row_switched, rows_kept, rows_switched, switch_of, value_gone}
 use Rattle.row_project.proofs.Declared.{column_of}
 use Rattle.flush_laws.proofs.Plans.Between.{legal_cells}
 use Rattle.flush_laws.proofs.Plans.Complete.{apart, found_placed, known_facts, new_created, written_there}

@@ -48,7 +48,8 @@ use Rattle.object_rows.specs.Seen.{keeps_rows, object_ids}
 use Rattle.object_rows.proofs.ObjectSteps.{all_made}
 use Rattle.pair_rows.specs.Pairs.{lost_rows}
 use Rattle.row_project.specs.Changes.{object_changes, project}
-use Rattle.row_switches.specs.Switch.{base_in, base_of, cell_after_switch, cell_kept, object_if, partners, row_kept, rows_kept, rows_switched, switch_of}
+use Rattle.row_partners.specs.Partners.{partners}
+use Rattle.row_switches.specs.Switch.{base_in, base_of, cell_after_switch, cell_kept, object_if, row_kept, rows_kept, rows_switched, switch_of}
 use Rattle.row_project.proofs.Declared.{column_of, same_column}
 use Rattle.row_switches.proofs.RowsAfter.{all_left}
 use Rattle.flush_laws.proofs.Plans.Between.{legal_cells}

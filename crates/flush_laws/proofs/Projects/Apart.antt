@@ -25,10 +25,12 @@ use Rattle.flush_order.specs.Orders.{gone_at, no_gone, place_of_gone}
 use Rattle.flush_order.specs.Sorted.{Place, same_place}
 use Rattle.flush_writes.specs.Writes.{place_of_changed}
 use Rattle.object_rows.specs.Rows.{has_cells}
-use Rattle.row_switches.specs.Switch.{gone_under, gone_unless_taken, is_known_as, is_number, is_taken, known_key, partner_of, partners, place_of_new, row_kept, row_left, row_switched, rows_kept, rows_left, rows_switched, switch_of, with_switches}
+use Rattle.row_partners.specs.Partners.{gone_under, gone_unless_taken, is_known_as, is_taken, known_key, partner_of, partners, place_of_new}
+use Rattle.row_switches.specs.Switch.{is_number, row_kept, row_left, row_switched, rows_kept, rows_left, rows_switched, switch_of, with_switches}
 use Rattle.row_switches.proofs.Each.{all_append, all_filter_map, all_map, each_to}
 use Rattle.row_switches.proofs.RowsAfter.{all_kept}
-use Rattle.row_switches.proofs.SwitchSteps.{none_or, partner_at, some_within, switched_within}
+use Rattle.row_partners.proofs.PartnerSteps.{partner_at}
+use Rattle.row_switches.proofs.SwitchSteps.{none_or, some_within, switched_within}
 use Rattle.flush_laws.proofs.Plans.Differing.{Differ, IsNotIn, apart_both, apart_filter, apart_of}
 use Rattle.flush_laws.proofs.Plans.Newness.{place_same, same_is}
 use Rattle.flush_laws.proofs.Plans.Numbers.{two_at}

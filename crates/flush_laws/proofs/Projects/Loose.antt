@@ -47,6 +47,7 @@ use Rattle.object_rows.specs.Seen.{end_put, is_kept_end, new_objects}
 use Rattle.object_rows.proofs.ObjectSteps.{names_made}
 use Rattle.pair_rows.specs.Pairs as pairs
 use Rattle.row_project.specs.Changes.{object_changes, project}
+use Rattle.row_partners.specs.Partners as switching
 use Rattle.row_switches.specs.Switch as switch
 use Rattle.row_switches.proofs.Each.{all_append, all_map, map_given, numbered}
 use Rattle.row_switches.proofs.RowsAfter.{all_staying}
@@ -276,7 +277,7 @@ module _ (mapped : Mapped) (lined : length mapped.classes.lines ≡ length mappe
     all_loose : AllByRecursion IsLoose (project mapped graph prepared).fresh
     all_loose =
         let changes = object_changes mapped graph prepared in
-        let partners = switch.partners mapped.schema changes in
+        let partners = switching.partners mapped.schema changes in
         all_staying IsLoose IsLoose mapped.schema changes partners
         (λ row loose. loose_after mapped.schema changes partners (spec_of mapped.schema row.name.table).foreigns (spec_of mapped.schema row.name.table).columns row.cells loose)
         (all_append IsLoose (rows.new_rows mapped graph prepared) (pairs.made_rows mapped graph prepared) new_loose made_loose)

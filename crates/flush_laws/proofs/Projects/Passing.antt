@@ -16,8 +16,9 @@ use Rattle.flush_order.specs.Orders.{gone_at, no_gone, place_of_gone}
 use Rattle.flush_order.specs.Sorted.{Place, same_place}
 use Rattle.flush_laws.proofs.Plans.Newness.{place_same, same_is}
 use Rattle.flush_laws.proofs.Plans.Numbers.{two_at}
-use Rattle.row_switches.proofs.SwitchSteps.{partner_at, partners_length}
-use Rattle.row_switches.specs.Switch.{gone_under, gone_unless_taken, is_known_as, is_number, is_taken, known_key, partner_of, partners, place_of_new}
+use Rattle.row_partners.proofs.PartnerSteps.{partner_at, partners_length}
+use Rattle.row_partners.specs.Partners.{gone_under, gone_unless_taken, is_known_as, is_taken, known_key, partner_of, partners, place_of_new}
+use Rattle.row_switches.specs.Switch.{is_number}
 use Rattle.flush_laws.specs.Projects.{PassedKeysAreSwitched}
 use Rattle.flush_laws.proofs.Projects.Columns.{no_key}
 

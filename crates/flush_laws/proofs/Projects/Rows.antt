@@ -22,6 +22,7 @@ use Rattle.object_rows.specs.Rows as rows
 use Rattle.object_rows.specs.Seen.{keeps_rows, object_ids}
 use Rattle.pair_rows.specs.Pairs as pairs
 use Rattle.row_project.specs.Changes.{object_changes, project}
+use Rattle.row_partners.specs.Partners as switching
 use Rattle.row_switches.specs.Switch as switch
 use Rattle.row_project.proofs.Declared.{column_of, same_column}
 use Rattle.row_switches.proofs.Each.{all_append, all_filter, all_given, each_to, flat_map_given, map_given}
@@ -65,7 +66,7 @@ switched_in_order mapped graph changes partners placed gone =
 pub cells_in_order : ChangedCellsAreInOrder
 cells_in_order mapped graph prepared =
     let changes = object_changes mapped graph prepared in
-    let partners = switch.partners mapped.schema changes in
+    let partners = switching.partners mapped.schema changes in
     all_append (HasOrder mapped.schema) (switch.rows_kept mapped graph changes partners) (switch.rows_switched mapped graph changes partners)
     (all_kept (HasOrder mapped.schema) mapped graph changes partners (kept_in_order mapped graph changes partners) (changed_in_order mapped graph prepared))
     (all_switched (λ (row : NewRow). Unit {0}) (HasOrder mapped.schema) mapped graph changes partners
@@ -94,7 +95,7 @@ plain_whole mapped graph prepared =
 pub rows_whole : NewRowsAreWhole
 rows_whole mapped graph prepared =
     let changes = object_changes mapped graph prepared in
-    let partners = switch.partners mapped.schema changes in
+    let partners = switching.partners mapped.schema changes in
     all_staying (IsWhole mapped.schema) (IsWhole mapped.schema) mapped.schema changes partners
     (λ row whole. length-map row.cells (switch.cell_after_switch mapped.schema changes partners) ∙ whole) (plain_whole mapped graph prepared)
 
@@ -128,5 +129,5 @@ lost_whole mapped graph prepared =
 pub bases_whole : GoneRowsAreWhole
 bases_whole mapped graph prepared =
     let changes = object_changes mapped graph prepared in
-    all_left (IsWholeBase mapped.schema) changes (switch.partners mapped.schema changes)
+    all_left (IsWholeBase mapped.schema) changes (switching.partners mapped.schema changes)
     (all_append (IsWholeBase mapped.schema) (rows.gone_rows mapped graph prepared) (pairs.lost_rows mapped graph prepared) (gone_whole mapped graph prepared) (lost_whole mapped graph prepared))

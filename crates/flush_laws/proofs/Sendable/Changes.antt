@@ -51,7 +51,8 @@ use Rattle.flush_laws.proofs.Graphs.OwnKinds.{first_rows}
 use Rattle.flush_laws.proofs.Projects.LateKeys.{each_has, late_keys_fit}
 use Rattle.flush_laws.proofs.Projects.Loose.{IsOwn, names_own}
 use Rattle.row_project.specs.Changes.{object_changes, project}
-use Rattle.row_switches.specs.Switch.{cell_after_switch, cell_kept, cell_switched, known_key, partner_of, partners, row_kept, rows_kept, rows_switched, row_switched, switch_of, value_gone, base_in, object_if, gone_unless_taken, place_of_new}
+use Rattle.row_partners.specs.Partners.{known_key, partner_of, partners, gone_unless_taken, place_of_new}
+use Rattle.row_switches.specs.Switch.{cell_after_switch, cell_kept, cell_switched, row_kept, rows_kept, rows_switched, row_switched, switch_of, value_gone, base_in, object_if}
 use Rattle.row_switches.proofs.Each.{all_append, all_filter, all_filter_map, all_map}
 use Rattle.row_switches.proofs.RowsAfter.{all_left, all_staying}
 use Rattle.flush_order.specs.Orders.{gone_at}

@@ -25,7 +25,8 @@ use Rattle.flush_order.specs.Cells.{first_cells, is_late, key_parts, known_row, 
 use Rattle.flush_laws.proofs.Plans.Facts.{or_false}
 use Rattle.flush_laws.proofs.Plans.Items.{all_at}
 use Rattle.flush_laws.proofs.Graphs.Named.{opposite}
-use Rattle.row_switches.specs.Switch.{cell_after_switch, changes_by, key_cell, known_key, numbers_from, row_staying}
+use Rattle.row_partners.specs.Partners.{known_key}
+use Rattle.row_switches.specs.Switch.{cell_after_switch, changes_by, key_cell, numbers_from, row_staying}
 use Rattle.flush_laws.specs.Sendable.{IsFitNew, cell_fits, takes_part}
 use Rattle.flush_laws.proofs.Sendable.Inserting.{cleared_fit}
 

@@ -1,5 +1,5 @@
 use Rattle.row_switches.specs.Switch.{cell_kept}
-use Rattle.row_switches.proofs.PartnerSteps.{kept_more}
+use Rattle.row_switches.proofs.SwitchSteps.{kept_more}
 use Rattle.row_switches.proofs.cells.Switch.row_kept.Goals as goal
 
 pub loop-cell-preserved : goal.loop-cell-preserved
