@@ -1,7 +1,7 @@
 """Has the kit's command rt keep what it finds out about a crate, for as long as it runs.
 
 rt asks what stands below a crate, and for the sum of its files and those below, along every path that crates.txt has down from it: some
-fifteen million paths here, which is hours for what takes a second where each crate is asked once. `.ci/run` names this folder in
+five million paths here, which is long for what takes a second where each crate is asked once. `.ci/run` names this folder in
 PYTHONPATH, and so does `./sqla` where it builds, so that python reads this file first. Nothing that rt decides changes: both answers
 follow from files that nothing writes while rt runs.
 """

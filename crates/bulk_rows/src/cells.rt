@@ -5,14 +5,14 @@ ghost use Rattle.base_core.specs.declared.value.Value.TheVariants.{Null};
 ghost use Rattle.schema_core.specs.Apply.{with_cells};
 ghost use Rattle.sql_semantics.specs.Checked.{Gives};
 ghost use Rattle.expr_eval.specs.Place.{place_of};
-ghost use Rattle.lent_tables.specs.Lent.{seen};
+ghost use Rattle.table_rows.specs.Lent.{seen};
 ghost use Rattle.sql_semantics.specs.Taken as spec;
 
 use base_core::{ColumnNo, Copied, ListOf, Refusal, RowValues, Value};
 use expr_eval::{Scope, value_in};
 use expr_types::Expr;
-use lent_tables::LentTables;
 use std::alloc::{AllocError, Global};
+use table_rows::LentTables;
 
 /// The scope of a row of the table, which alone is in scope.
 pub(crate) fn scope_at<'x>(starts: &'x [u32], tables: LentTables<'x>, row: &'x [Value]) -> Scope<'x>

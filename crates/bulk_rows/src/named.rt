@@ -1,16 +1,16 @@
 //! Tables in the expressions of a bulk statement.
 
 ghost use Rattle.std.specs.Prelude.{◌≡◌, ◌++◌, map, OnOk};
-ghost use Rattle.lent_tables.specs.Lent.{seen};
+ghost use Rattle.table_rows.specs.Lent.{seen};
 ghost use Rattle.sql_semantics.specs.Checked.{Gives};
 ghost use Rattle.sql_semantics.specs.Rows.{require_created, flat, named_where};
 ghost use Rattle.sql_semantics.specs.Applied as spec;
 
 use base_core::{ColumnNo, ListOf, Refusal};
 use expr_types::Expr;
-use lent_tables::LentTables;
 use select_rows::{created, named};
 use std::alloc::{AllocError, Global};
+use table_rows::LentTables;
 
 fn of_expression(e: &Option<Expr>, found: &mut Vec<u32>) -> Result<(), AllocError>
     ensures { OnOk result (found.new.items ≡ found.old.items ++ named_where e.now) }

@@ -1,8 +1,8 @@
 //! The rows that a bulk statement takes.
 
 ghost use Rattle.std.specs.Prelude.{◌≡◌, [], ◌∷◌, ◌++◌, if◌then◌else◌, OnOk};
-ghost use Rattle.lent_tables.specs.Lent.{seen};
-ghost use Rattle.lent_tables.specs.Walks.{entries_left};
+ghost use Rattle.table_rows.specs.Lent.{seen};
+ghost use Rattle.table_rows.specs.Walks.{entries_left};
 ghost use Rattle.sql_semantics.specs.Checked.{Gives};
 ghost use Rattle.sql_semantics.specs.Taken as spec;
 
@@ -10,8 +10,8 @@ use crate::cells::{rewritten, scope_at};
 use base_core::{ColumnNo, Copied, Key, ListOf, Refusal, RowValues, Value};
 use expr_eval::{passes, value_in};
 use expr_types::Expr;
-use lent_tables::{EntryWalk, LentTables};
 use std::alloc::{AllocError, Global};
+use table_rows::{EntryWalk, LentTables};
 
 /// Whether the statement takes the row.
 fn takes(

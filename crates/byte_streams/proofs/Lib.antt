@@ -1,1 +1,4 @@
+pub mod Pieces
+pub mod Reading
 pub mod ReadingLemmas
+pub mod Scripts

@@ -56,6 +56,8 @@ pub fn delete_closure(
     requires fit { IsFit mapping.now arena.now }
     requires object { IsObject arena.now object }
     ensures closure { IfOk result (spec.IsClosure Delete mapping.now arena.now object) }
+    ensures is { IfOk result (λ set. set
+        ≡ spec.closure_of Delete mapping.now arena.now object) }
     ensures cause { IfErr result (λ e. e ≡ Memory) }
 {
     closure(alloc, arena, mapping, Flag::Delete, object)
@@ -72,6 +74,8 @@ pub fn expunge_closure(
     requires fit { IsFit mapping.now arena.now }
     requires object { IsObject arena.now object }
     ensures closure { IfOk result (spec.IsClosure Expunge mapping.now arena.now object) }
+    ensures is { IfOk result (λ set. set
+        ≡ spec.closure_of Expunge mapping.now arena.now object) }
     ensures cause { IfErr result (λ e. e ≡ Memory) }
 {
     closure(alloc, arena, mapping, Flag::Expunge, object)
@@ -88,6 +92,8 @@ pub fn expire_closure(
     requires fit { IsFit mapping.now arena.now }
     requires object { IsObject arena.now object }
     ensures closure { IfOk result (spec.IsClosure RefreshExpire mapping.now arena.now object) }
+    ensures is { IfOk result (λ set. set
+        ≡ spec.closure_of RefreshExpire mapping.now arena.now object) }
     ensures cause { IfErr result (λ e. e ≡ Memory) }
 {
     closure(alloc, arena, mapping, Flag::RefreshExpire, object)

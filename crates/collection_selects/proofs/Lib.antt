@@ -1,0 +1,10 @@
+pub mod ClassLemmas
+pub mod Keys
+pub mod MemberLemmas
+pub mod PairLemmas
+pub mod Pairs
+pub mod Placed
+pub mod Plain
+pub mod Rows
+pub mod Standing
+pub mod Typed

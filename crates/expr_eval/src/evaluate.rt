@@ -7,20 +7,20 @@ ghost use Rattle.base_core.specs.Order.{same_value};
 ghost use Rattle.sql_semantics.specs.Eval as spec;
 ghost use Rattle.sql_semantics.specs.Eval.{meaning_of};
 ghost use Rattle.expr_eval.specs.Place.{place_of};
-ghost use Rattle.lent_tables.specs.Walks.{rows_left};
+ghost use Rattle.table_rows.specs.Walks.{rows_left};
 ghost use Rattle.sql_semantics.specs.Truth as truth;
 
 use crate::scope::{Scope, counted, more_starts};
 use crate::tried::rows_tried;
 use base_core::{ArithOp, Copied, Refusal, RowValues, Value};
 use expr_types::{CompareOp, Expr, Func, Origin};
-use lent_tables::{LentTables, RowWalk};
 use query_steps::{
     aggregated, all3, among, any3, applied, arithmetic, between, compared, concatenated, is_like,
     is_null, joined, known, negated, not3, passes, same, signed, truth_of, value_of,
 };
 use sqlite_items::{Boxed, Items};
 use std::alloc::Global;
+use table_rows::{LentTables, RowWalk};
 
 /// The value of an expression in a scope. Operands are evaluated from left to right, with no short cut.
 #[tactic(auto, unfolding(sql_semantics::specs::Eval::meaning_of))]

@@ -6,7 +6,7 @@ use Rattle.object_arena.specs.Graph.{Graph}
 use Rattle.object_arena.specs.Identity.{IsGraph}
 use Rattle.object_records.specs.Records.{CanFollow, with_records}
 use Rattle.savepoints.specs.Scopes.{Framed}
-use Rattle.touching.specs.Touched.{frames_touched_between}
+use Rattle.object_records.specs.Touched.{frames_touched_between}
 use Rattle.graph_flushed.specs.Flushed.{Written, graph_written}
 use Rattle.graph_flushed.specs.Ready.{AreNarrowThen}
 use Rattle.graph_flushed.proofs.FollowSteps.{can_follow}

@@ -14,8 +14,7 @@ use base_core::{ClassId, Copied, Key, Name, ObjId, Refusal, RelNo, TableId, Valu
 use class_layouts::number_of;
 use class_mapping::{Attribute, Relation};
 use graph_flushed::{is_telling, known_value, part_or_null};
-use identity_maps::IdentityMap;
-use object_arena::Cell;
+use object_arena::{Cell, IdentityMap};
 use object_rows::{end_put, is_in_session};
 use object_writes::Projection;
 use schema_core::RowCell;

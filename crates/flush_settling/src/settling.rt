@@ -4,7 +4,7 @@ ghost use Rattle.std.specs.Prelude.{◌≡◌, true, length, IfErr, IfOk, OnErr,
 ghost use Rattle.base_core.specs.declared.refusal.Refusal.TheVariants.{Memory};
 ghost use Rattle.object_arena.specs.Every.{classes_of};
 ghost use Rattle.object_arena.specs.Fit.{IsFit};
-ghost use Rattle.touching.specs.Touched.{frames_touched_between};
+ghost use Rattle.object_records.specs.Touched.{frames_touched_between};
 ghost use Rattle.object_records.specs.Records.{CanFollow, with_records};
 ghost use Rattle.graph_flushed.specs.Fitting.{IsFitting};
 ghost use Rattle.graph_flushed.specs.Flushed as spec;

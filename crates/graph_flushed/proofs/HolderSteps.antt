@@ -7,7 +7,7 @@ use Rattle.std.proofs.lemmas.Slice.Zip.{get_or-zip, length-zip}
 use Rattle.base_core.specs.declared.ids.ClassId.{ClassId}
 use Rattle.base_core.specs.declared.ids.ObjId.{ObjId}
 use Rattle.base_core.specs.declared.value.Value.{Value}
-use Rattle.identity_maps.specs.Entries.{Keyed, entry_in, entry_of}
+use Rattle.object_arena.specs.Entries.{Keyed, entry_in, entry_of}
 use Rattle.object_arena.specs.Graph.{no_class_id}
 use Rattle.object_arena.specs.Identity.{id_of_place}
 use Rattle.object_rows.proofs.PlaceSteps.{found_first, found_from, none_behind}

@@ -6,8 +6,7 @@ ghost use Rattle.object_arena.specs.Graph.{IsObject, root_at};
 ghost use Rattle.graph_flushed.specs.Ready.{AreHolders, IsEntered};
 
 use base_core::{Copied, Key, ObjId, Refusal};
-use identity_maps::IdentityMap;
-use object_arena::Arena;
+use object_arena::{Arena, IdentityMap};
 use std::alloc::Global;
 
 /// The new objects by their roots and keys. Each is put in after those behind it, so that of several the first stays. The only refusal is `Memory`.

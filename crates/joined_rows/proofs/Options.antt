@@ -35,10 +35,10 @@ use Rattle.load_columns.specs.Placing.{attribute_column, attribute_columns, from
 use Rattle.load_columns.specs.Conditions.{column_of}
 use Rattle.load_selects.specs.Selects.{item_of, origin_of}
 use Rattle.load_rows.specs.Reading.{AreOfKinds, IsRowOf}
-use Rattle.load_laws.proofs.Keys.{IsAt}
-use Rattle.load_laws.proofs.Placed.{StandsAt, at_more, attribute_typed}
-use Rattle.load_laws.proofs.Standing.{column_stands}
-use Rattle.load_laws.proofs.Rows.{ReadsClass, are_read, read_fits}
+use Rattle.collection_selects.proofs.Keys.{IsAt}
+use Rattle.collection_selects.proofs.Placed.{StandsAt, at_more, attribute_typed}
+use Rattle.collection_selects.proofs.Standing.{column_stands}
+use Rattle.collection_selects.proofs.Rows.{ReadsClass, are_read, read_fits}
 use Rattle.main_selects.specs.MainSelect.{further_keys, main_select, option_columns, with_joined, with_shifted}
 use Rattle.joined_rows.specs.Parts.{IsJoinedRow, option_width, own_values, part_at, parts_from, parts_of, values_from, width_of}
 use Rattle.joined_rows.proofs.Widening.{IsOption, Items, Widens, columns_alike, count_sources, option_of, options_widen, placed_in, widens_itself, widens_then}

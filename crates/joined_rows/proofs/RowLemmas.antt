@@ -18,7 +18,7 @@ use Rattle.mapping_laws.proofs.Ties.{class_tables}
 use Rattle.load_selects.specs.Branches.{discriminator_of}
 use Rattle.load_filling.specs.Rows.{class_named, row_key, value_in}
 use Rattle.load_rows.specs.Reading.{AreOfKinds, IsRowOf}
-use Rattle.load_laws.proofs.Rows.{each_passes, named_fits, of_key}
+use Rattle.collection_selects.proofs.Rows.{each_passes, named_fits, of_key}
 use Rattle.joined_rows.specs.Taking.{are_given}
 
 -- a value that fits an attribute, and is not NULL

@@ -9,14 +9,14 @@ use Rattle.base_core.specs.declared.refusal.Refusal.{Refusal}
 use Rattle.class_mapping.specs.Mapped.{Mapped, root_of}
 use Rattle.object_arena.specs.Fit.{IsFit}
 use Rattle.object_arena.specs.Graph.{Graph, IsObject, root_at}
-use Rattle.programs.specs.Alone.{IsQuiet, alone}
-use Rattle.programs.specs.Moment.{Reaches, Runs}
-use Rattle.programs.specs.Programs.{◌>>=◌, each, give}
-use Rattle.programs.proofs.AloneLemmas.{quietly_alone}
-use Rattle.programs.proofs.Sequence.{done, reaches_start, then_err, then_ok}
+use Rattle.keeper_core.specs.Alone.{IsQuiet, alone}
+use Rattle.keeper_core.specs.Moment.{Reaches, Runs}
+use Rattle.keeper_core.specs.Programs.{◌>>=◌, each, give}
+use Rattle.keeper_core.proofs.AloneLemmas.{quietly_alone}
+use Rattle.keeper_core.proofs.Sequence.{done, reaches_start, then_err, then_ok}
 use Rattle.load_filling.specs.Growing.{Grows}
 use Rattle.load_rows.specs.Loading.{Loading, take_row}
-use Rattle.load_collections.proofs.RowsLemmas.{object_of}
+use Rattle.load_calls.proofs.RowsLemmas.{object_of}
 use Rattle.joined_rows.specs.declared.parts.Part.{Part}
 use Rattle.joined_rows.specs.Parts.{own_values}
 use Rattle.object_parts.specs.declared.answers.Taken.{Taken}

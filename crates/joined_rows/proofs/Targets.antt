@@ -23,8 +23,8 @@ use Rattle.load_columns.specs.declared.placing.Placement.{Placement}
 use Rattle.load_columns.specs.Placing.{place_at_rank, place_of_table, rank_of, referred_table}
 use Rattle.load_selects.specs.declared.sources.Further.{Further}
 use Rattle.load_selects.specs.Sources.{first_behind, keyed_source, leading_by, leading_table, other_tables, ranked_source, referred_source, referring_source, related_sources, target_placement, tied_by}
-use Rattle.load_laws.proofs.MemberLemmas.{among_has, referred, referred_is}
-use Rattle.load_laws.proofs.Placed.{StandsAt, rank_finds}
+use Rattle.collection_selects.proofs.MemberLemmas.{among_has, referred, referred_is}
+use Rattle.collection_selects.proofs.Placed.{StandsAt, rank_finds}
 use Rattle.joined_rows.proofs.Widening.{joined_table, table_of}
 
 apart_below : (a b : ℕ) → a ≤ b → ((a ≡ b) → ⊥) → a < b

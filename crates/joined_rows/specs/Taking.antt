@@ -7,7 +7,7 @@ use Rattle.base_core.specs.declared.ids.ObjId.{ObjId}
 use Rattle.base_core.specs.declared.value.Value.{Value}
 use Rattle.schema_core.specs.Tables.{is_null}
 use Rattle.class_mapping.specs.Mapped.{Mapped, root_of}
-use Rattle.programs.specs.Programs.{Run, ◌>>=◌, each, give}
+use Rattle.keeper_core.specs.Programs.{Run, ◌>>=◌, each, give}
 use Rattle.object_arena.specs.Fit.{end_fits, is_of_root}
 use Rattle.load_filling.specs.Rows.{row_key}
 use Rattle.load_rows.specs.Loading.{Loading, take_row}

@@ -5,12 +5,12 @@ ghost use Rattle.std.specs.List.{All, AllByRecursion};
 ghost use Rattle.base_core.specs.declared.refusal.Refusal.TheVariants.{Memory};
 ghost use Rattle.class_mapping.specs.Mapped.{IsClass};
 ghost use Rattle.object_arena.specs.Fit.{IsFit};
-ghost use Rattle.programs.specs.Alone.{alone};
-ghost use Rattle.programs.specs.Moment.{Runs};
+ghost use Rattle.keeper_core.specs.Alone.{alone};
+ghost use Rattle.keeper_core.specs.Moment.{Runs};
 ghost use Rattle.load_filling.specs.Growing.{Grows};
 ghost use Rattle.load_rows.specs.Loading.{loading};
 ghost use Rattle.load_rows.specs.Reading.{AreOfKinds};
-ghost use Rattle.load_collections.specs.Refusals.{CanRefuseRow};
+ghost use Rattle.load_calls.specs.Refusals.{CanRefuseRow};
 ghost use Rattle.joined_rows.specs.Parts.{values_from};
 ghost use Rattle.joined_rows.specs.Taking as spec;
 

@@ -10,7 +10,7 @@ use base_core::{ClassId, ListOf, Refusal, RelNo};
 use class_layouts::number_of;
 use class_mapping::{Mapping, Relation};
 use load_columns::from_root;
-use load_links::relation_at;
+use load_rows::relation_at;
 use main_selects::option_columns;
 use std::alloc::Global;
 

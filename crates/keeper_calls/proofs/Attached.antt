@@ -1,10 +1,10 @@
 -- Calls leave a keeper attached.
 use Rattle.std.proofs.Common.{◌≡◌, ◌∙◌, ℕ, true, Result}
 use Rattle.base_core.specs.declared.refusal.Refusal.{Refusal}
-use Rattle.programs.specs.declared.sent.Sent.{Sent}
-use Rattle.programs.specs.Moment.{Moment, parts}
-use Rattle.programs.specs.Programs.{Run}
-use Rattle.programs.specs.Store.{Store}
+use Rattle.keeper_core.specs.declared.sent.Sent.{Sent}
+use Rattle.keeper_core.specs.Moment.{Moment, parts}
+use Rattle.keeper_core.specs.Programs.{Run}
+use Rattle.keeper_core.specs.Store.{Store}
 use Rattle.keeper_core.specs.Keeping.{IsCall, IsStatement}
 
 pub called_attached : {A K : Type 0} {moment : K → Moment Store} {m : Store → Run Store A} {scopes : ℕ} {old new : K} {result : Result A Refusal} → IsCall moment m scopes old result new

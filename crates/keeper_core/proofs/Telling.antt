@@ -1,9 +1,9 @@
 -- What is known of the tables that a keeper tells is not lost after a call.
 use Rattle.std.proofs.Common.{◌≡◌, ℕ, Bool, false, Option, None, Some, IfSome, Ok, Err, MatchBool, sym, subst}
 use Rattle.base_core.specs.declared.refusal.Refusal.{Refusal}
-use Rattle.programs.specs.Programs.{Run, ends_early}
-use Rattle.programs.specs.Moment.{AsTold, IsCutOff, IsRun, Moment, Ran, Runs, Told}
-use Rattle.programs.specs.Store.{Store}
+use Rattle.keeper_core.specs.Programs.{Run, ends_early}
+use Rattle.keeper_core.specs.Moment.{AsTold, IsCutOff, IsRun, Moment, Ran, Runs, Told}
+use Rattle.keeper_core.specs.Store.{Store}
 use Rattle.keeper_core.specs.Keeping.{IsCoherent, IsCoherentTold}
 
 -- the store that is told, where one is, has this property

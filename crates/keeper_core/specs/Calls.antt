@@ -9,15 +9,15 @@ use Rattle.base_core.specs.declared.refusal.IntegrityKind.TheVariants as kinds
 use Rattle.schema_core.specs.declared.statement.RowStmt.{RowStmt}
 use Rattle.schema_core.specs.declared.statement.Violation.{Violation}
 use Rattle.schema_core.specs.declared.statement.Violation.TheVariants as violations
-use Rattle.programs.specs.declared.sent.Sent.{Sent}
-use Rattle.programs.specs.declared.sent.Sent.TheVariants as sent
+use Rattle.keeper_core.specs.declared.sent.Sent.{Sent}
+use Rattle.keeper_core.specs.declared.sent.Sent.TheVariants as sent
 use Rattle.keeper_core.specs.declared.keeper.KeeperStop.{KeeperStop}
 use Rattle.keeper_core.specs.declared.keeper.KeeperStop.TheVariants as stops
 use Rattle.keeper_core.specs.declared.keeper.WriteRefusal.{WriteRefusal}
 use Rattle.keeper_core.specs.declared.keeper.WriteRefusal.TheVariants as writes
 use Rattle.keeper_core.specs.declared.keeper.QueryRefusal.{QueryRefusal}
 use Rattle.keeper_core.specs.declared.keeper.QueryRefusal.TheVariants as queries
-use Rattle.programs.specs.Programs.{Run, Sends, quiet, give}
+use Rattle.keeper_core.specs.Programs.{Run, Sends, quiet, give}
 use Rattle.schema_core.specs.Apply.{Outcome, apply, table_of}
 use Rattle.schema_core.specs.Catalog.{Catalog}
 use Rattle.schema_core.specs.Refusals.{violation_refusal}
@@ -28,7 +28,7 @@ use Rattle.sql_semantics.specs.Rows.{answer}
 use Rattle.expr_types.specs.declared.select.Bulk.{Bulk}
 use Rattle.sql_semantics.specs.Applied.{bulk_outcome}
 use Rattle.sql_semantics.specs.Applied as bulks
-use Rattle.programs.specs.Store.{Store, committed_of, with_empty_table, without_table}
+use Rattle.keeper_core.specs.Store.{Store, committed_of, with_empty_table, without_table}
 
 -- ---- refusals of a keeper as refusals of the layers above
 

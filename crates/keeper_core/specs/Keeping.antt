@@ -20,13 +20,13 @@ use Rattle.sql_semantics.specs.Created.{bare}
 use Rattle.sql_semantics.specs.SelectRefusals as select
 use Rattle.sql_semantics.specs.SelectRefusals.{IsOfDeclared}
 use Rattle.sql_semantics.specs.Shapes.{AreLegalRows, AreRows}
-use Rattle.programs.specs.declared.sent.Sent.{Sent}
-use Rattle.programs.specs.declared.sent.Sent.TheVariants as sent
-use Rattle.programs.specs.declared.target.Target.{Target}
-use Rattle.programs.specs.declared.target.Target.TheVariants as targets
-use Rattle.programs.specs.Store.{Store, committed_of}
-use Rattle.programs.specs.Programs.{Run, ends_early}
-use Rattle.programs.specs.Moment.{IsCalm, IsFaultCount, Moment, Runs, Told, counters}
+use Rattle.keeper_core.specs.declared.sent.Sent.{Sent}
+use Rattle.keeper_core.specs.declared.sent.Sent.TheVariants as sent
+use Rattle.keeper_core.specs.declared.target.Target.{Target}
+use Rattle.keeper_core.specs.declared.target.Target.TheVariants as targets
+use Rattle.keeper_core.specs.Store.{Store, committed_of}
+use Rattle.keeper_core.specs.Programs.{Run, ends_early}
+use Rattle.keeper_core.specs.Moment.{IsCalm, IsFaultCount, Moment, Runs, Told, counters}
 use Rattle.keeper_core.specs.Calls as call
 
 -- ---- what a keeper tells

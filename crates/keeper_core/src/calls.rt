@@ -6,7 +6,7 @@ ghost use Rattle.schema_core.specs.WellFormed.{AreKeysFor, IsWellFormed};
 ghost use Rattle.sql_semantics.specs.Applied as bulk_rows;
 ghost use Rattle.sql_semantics.specs.Plain.{IsPlainBulk, IsPlainSelect};
 ghost use Rattle.sql_semantics.specs.Shapes.{AreGiven, AreOfItems, AreWide};
-ghost use Rattle.programs.specs.Programs as programs;
+ghost use Rattle.keeper_core.specs.Programs as programs;
 ghost use Rattle.keeper_core.specs.Calls as call;
 ghost use Rattle.keeper_core.specs.Keeping as keeping;
 ghost use Rattle.keeper_core.specs.Keeping.{AreRowsOf, HoldsLegalRows, HoldsRows};

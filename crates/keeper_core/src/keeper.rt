@@ -7,16 +7,16 @@ ghost use Rattle.schema_core.specs.WellFormed.{AreKeysFor, IsWellFormed};
 ghost use Rattle.sql_semantics.specs.Applied as bulk;
 ghost use Rattle.sql_semantics.specs.Plain.{IsPlainBulk, IsPlainSelect};
 ghost use Rattle.sql_semantics.specs.Shapes.{AreGiven, AreOfItems, AreWide};
-ghost use Rattle.programs.specs.Moment.{Moment};
-ghost use Rattle.programs.specs.Programs.{as_refusal};
-ghost use Rattle.programs.specs.Store.{Store};
+ghost use Rattle.keeper_core.specs.Moment.{Moment};
+ghost use Rattle.keeper_core.specs.Programs.{as_refusal};
+ghost use Rattle.keeper_core.specs.Store.{Store};
 ghost use Rattle.keeper_core.specs.Calls.{query_refusal, refusal_by, stop_refusal, write_refusal};
 ghost use Rattle.keeper_core.specs.Keeping as keeping;
 ghost use Rattle.keeper_core.specs.Keeping.{AreRowsOf, HoldsLegalRows, HoldsRows, IsAttached, IsCoherent};
 
+use crate::target::Target;
 use base_core::{ArithOp, KeyList, RowList, TableId};
 use expr_types::{Bulk, Select};
-use programs::Target;
 use schema_core::{RowStmt, Schema, Violation};
 use std::alloc::Global;
 

@@ -1,7 +1,7 @@
 //! What a command did, in the order of its happening.
 
+use crate::sent::Sent;
 use base_core::{ListOf, ObjId, Warning};
-use programs::Sent;
 
 /// A statement sent, a warning, or an object of which a load made or filled something.
 #[derive(Drop)]

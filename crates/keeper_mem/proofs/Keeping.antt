@@ -10,14 +10,14 @@ use Rattle.schema_core.specs.Catalog.{Catalog}
 use Rattle.schema_core.specs.Tables.{is_created, rows_in}
 use Rattle.sql_semantics.specs.Created.{bare}
 use Rattle.sql_semantics.specs.Shapes.{AreLegalRows, AreRows}
-use Rattle.programs.specs.declared.sent.Sent.{Sent}
-use Rattle.programs.specs.declared.sent.Sent.TheVariants as sent
-use Rattle.programs.specs.declared.target.Target.{Target}
-use Rattle.programs.specs.declared.target.Target.TheVariants as targets
-use Rattle.programs.specs.Programs.{Run, after_events, ends_early, is_fault, is_of_tables, quiet, give}
-use Rattle.programs.specs.Moment.{AsTold, IsCutOff, IsRun, Outcome, Ran, Refused, Runs, Stops, Told}
-use Rattle.programs.specs.Store.{Store, committed_of, with_empty_table, without_table}
-use Rattle.programs.proofs.Counts.{no_fault, own_is_no_fault}
+use Rattle.keeper_core.specs.declared.sent.Sent.{Sent}
+use Rattle.keeper_core.specs.declared.sent.Sent.TheVariants as sent
+use Rattle.keeper_core.specs.declared.target.Target.{Target}
+use Rattle.keeper_core.specs.declared.target.Target.TheVariants as targets
+use Rattle.keeper_core.specs.Programs.{Run, after_events, ends_early, is_fault, is_of_tables, quiet, give}
+use Rattle.keeper_core.specs.Moment.{AsTold, IsCutOff, IsRun, Outcome, Ran, Refused, Runs, Stops, Told}
+use Rattle.keeper_core.specs.Store.{Store, committed_of, with_empty_table, without_table}
+use Rattle.keeper_core.proofs.Counts.{no_fault, own_is_no_fault}
 use Rattle.keeper_core.specs.Calls as call
 use Rattle.keeper_core.specs.Calls.{sends}
 use Rattle.keeper_core.specs.Keeping as keeping

@@ -4,9 +4,9 @@ use Rattle.base_core.specs.declared.refusal.Refusal.{Refusal}
 use Rattle.base_core.specs.declared.refusal.Refusal.TheVariants as refusal
 use Rattle.base_core.specs.declared.ids.TableId.{TableId}
 use Rattle.schema_core.specs.Tables.{Tables}
-use Rattle.programs.specs.declared.sent.Sent.{Sent}
-use Rattle.programs.specs.Programs.{Run, ends_early}
-use Rattle.programs.specs.Store.{Store, outermost}
+use Rattle.keeper_core.specs.declared.sent.Sent.{Sent}
+use Rattle.keeper_core.specs.Programs.{Run, ends_early}
+use Rattle.keeper_core.specs.Store.{Store, outermost}
 use Rattle.keeper_core.specs.declared.keeper.WriteRefusal.{WriteRefusal}
 use Rattle.keeper_core.specs.declared.keeper.WriteRefusal.TheVariants as writes
 use Rattle.keeper_core.specs.declared.keeper.QueryRefusal.{QueryRefusal}

@@ -4,12 +4,12 @@ use Rattle.std.specs.List.{list_any}
 use Rattle.base_core.specs.Counts.{one_more}
 use Rattle.base_core.specs.declared.refusal.Refusal.{Refusal}
 use Rattle.base_core.specs.declared.refusal.Refusal.TheVariants as from
-use Rattle.programs.specs.declared.sent.Sent.{Sent}
-use Rattle.programs.specs.declared.target.Target.{Target}
-use Rattle.programs.specs.declared.target.Target.TheVariants as targets
-use Rattle.programs.specs.Moment.{Moment, Refused, Told}
-use Rattle.programs.specs.Programs.{Run, ends_early, is_fault}
-use Rattle.programs.specs.Store.{Store, committed_of}
+use Rattle.keeper_core.specs.declared.sent.Sent.{Sent}
+use Rattle.keeper_core.specs.declared.target.Target.{Target}
+use Rattle.keeper_core.specs.declared.target.Target.TheVariants as targets
+use Rattle.keeper_core.specs.Moment.{Moment, Refused, Told}
+use Rattle.keeper_core.specs.Programs.{Run, ends_early, is_fault}
+use Rattle.keeper_core.specs.Store.{Store, committed_of}
 use Rattle.keeper_core.specs.Calls.{sends}
 use Rattle.keeper_core.specs.Keeping.{IsCoherent, IsCoherentTold, new_store}
 use Rattle.table_log.specs.Marks.{HasMore, IsNoted, Marked, Marks, no_marks}

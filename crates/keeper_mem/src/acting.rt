@@ -7,7 +7,7 @@ ghost use Rattle.schema_core.specs.WellFormed.{AreKeysFor, IsWellFormed};
 ghost use Rattle.sql_semantics.specs.Applied as bulk;
 ghost use Rattle.sql_semantics.specs.Plain.{IsPlainBulk, IsPlainSelect};
 ghost use Rattle.sql_semantics.specs.Shapes.{AreGiven, AreOfItems, AreWide};
-ghost use Rattle.programs.specs.Programs.{as_refusal};
+ghost use Rattle.keeper_core.specs.Programs.{as_refusal};
 ghost use Rattle.keeper_core.specs.declared.keeper.KeeperStop.TheVariants as stops;
 ghost use Rattle.keeper_core.specs.Calls.{query_refusal, stop_refusal, write_refusal};
 ghost use Rattle.keeper_core.specs.Keeping as keeping;
@@ -19,8 +19,7 @@ ghost use Rattle.keeper_mem.specs.Kept.{IsCounted, IsMarked, IsNumbered, coheren
 use crate::MemKeeper;
 use base_core::{KeyList, RowList, TableId};
 use expr_types::{Bulk, Select};
-use keeper_core::{Keeper, KeeperStop, QueryRefusal, WriteRefusal};
-use programs::Target;
+use keeper_core::{Keeper, KeeperStop, QueryRefusal, Target, WriteRefusal};
 use schema_core::{RowStmt, Schema};
 use std::alloc::Global;
 

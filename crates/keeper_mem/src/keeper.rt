@@ -11,9 +11,9 @@ ghost use Rattle.sql_semantics.specs.Applied as bulk;
 ghost use Rattle.sql_semantics.specs.Plain.{IsPlainBulk, IsPlainSelect};
 ghost use Rattle.sql_semantics.specs.Created.{bare};
 ghost use Rattle.sql_semantics.specs.Shapes.{AreGiven, AreLegalRows, AreOfItems, AreRows, AreWide};
-ghost use Rattle.programs.specs.declared.sent.Sent.TheVariants as sent;
-ghost use Rattle.programs.specs.Programs.{as_refusal};
-ghost use Rattle.programs.specs.Store.{committed_of, with_empty_table, without_table};
+ghost use Rattle.keeper_core.specs.declared.sent.Sent.TheVariants as sent;
+ghost use Rattle.keeper_core.specs.Programs.{as_refusal};
+ghost use Rattle.keeper_core.specs.Store.{committed_of, with_empty_table, without_table};
 ghost use Rattle.keeper_core.specs.declared.keeper.KeeperStop.TheVariants as stops;
 ghost use Rattle.keeper_core.specs.Calls as call;
 ghost use Rattle.keeper_core.specs.Calls.{query_refusal, write_refusal};
@@ -23,12 +23,11 @@ ghost use Rattle.table_log.specs.Marks.{log_cut, no_marks, place_added, place_dr
 ghost use Rattle.table_log.specs.Undone.{AreMarks};
 ghost use Rattle.row_statements.specs.Held.{rows_changed};
 ghost use Rattle.table_store.specs.Written.{given_up};
-ghost use Rattle.keeper_mem.specs.Kept.{Does, one_call_more, depth_by, call_ended, call_failed, is_failing, is_listed, is_taken, new_keeper, sent_by, taken_by, untaken_by};
+ghost use Rattle.keeper_mem.specs.Kept.{Does, one_call_more, depth_by, call_ended, call_failed, is_failing, is_listed, new_keeper, sent_by, taken_by, untaken_by};
 
 use base_core::{KeyList, Refusal, RowList, TableId};
 use expr_types::{Bulk, Select};
-use keeper_core::{KeeperStop, QueryRefusal, WriteRefusal};
-use programs::{Sent, Target};
+use keeper_core::{KeeperStop, QueryRefusal, Sent, Target, WriteRefusal};
 use schema_core::{RowStmt, Schema};
 use statement_log::StatementLog;
 use std::alloc::{AllocError, Global};
@@ -124,13 +123,6 @@ impl MemKeeper {
         ensures marks { AreMarks self.now.store self.now.marks }
     {
         self.store.log().1
-    }
-
-    /// Whether it was given a target, and took it.
-    pub fn is_attached(&self) -> bool
-        ensures { result ≡ is_taken self.now.attachment }
-    {
-        matches!(&self.attachment, Attachment::Taken(_))
     }
 
     /// Counts a call, and ends it where its number is one of those that fail.

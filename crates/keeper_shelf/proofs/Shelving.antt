@@ -1,12 +1,12 @@
 -- What the keeper behind it does, the whole does.
 use Rattle.std.proofs.Common.{◌≡◌, ℕ, [], true, Option, None, Some, Result, Ok, sym, ◌∙◌, subst}
 use Rattle.base_core.specs.declared.refusal.Refusal.{Refusal}
-use Rattle.programs.specs.declared.sent.Sent.{Sent}
-use Rattle.programs.specs.declared.target.Target.{Target}
-use Rattle.programs.specs.declared.target.Target.TheVariants as targets
-use Rattle.programs.specs.Moment.{Moment, Ran, parts}
-use Rattle.programs.specs.Programs.{Run}
-use Rattle.programs.specs.Store.{Store}
+use Rattle.keeper_core.specs.declared.sent.Sent.{Sent}
+use Rattle.keeper_core.specs.declared.target.Target.{Target}
+use Rattle.keeper_core.specs.declared.target.Target.TheVariants as targets
+use Rattle.keeper_core.specs.Moment.{Moment, Ran, parts}
+use Rattle.keeper_core.specs.Programs.{Run}
+use Rattle.keeper_core.specs.Store.{Store}
 use Rattle.keeper_core.specs.Keeping.{IsAttached, IsCall, IsStatement}
 use Rattle.keeper_mem.specs.declared.keeper.Attachment.{Attachment}
 use Rattle.keeper_mem.specs.declared.keeper.Attachment.TheVariants.{Fresh, Taken, Untaken}

@@ -1,9 +1,9 @@
 -- What is seen of a keeper in memory whose place one over a file takes.
 use Rattle.std.specs.Prelude.{◌≡◌, [], Option, None, Some, Ok}
-use Rattle.programs.specs.Moment.{Moment}
-use Rattle.programs.specs.Store.{Store}
-use Rattle.programs.specs.declared.target.Target.{Target}
-use Rattle.programs.specs.declared.target.Target.TheVariants as targets
+use Rattle.keeper_core.specs.Moment.{Moment}
+use Rattle.keeper_core.specs.Store.{Store}
+use Rattle.keeper_core.specs.declared.target.Target.{Target}
+use Rattle.keeper_core.specs.declared.target.Target.TheVariants as targets
 use Rattle.keeper_core.specs.Keeping.{IsAttached, IsCoherent}
 use Rattle.keeper_mem.specs.Kept as mem
 use Rattle.keeper_sqlite.specs.Counted as sqlite

@@ -2,16 +2,15 @@
 
 ghost use Rattle.std.specs.Prelude.{◌≡◌, ◌<◌, ◌≤◌, None, IfErr, IfOk, IfSome};
 ghost use Rattle.base_core.specs.declared.refusal.Refusal.TheVariants as refusals;
-ghost use Rattle.programs.specs.Programs.{as_refusal};
+ghost use Rattle.keeper_core.specs.Programs.{as_refusal};
 ghost use Rattle.keeper_core.specs.Calls.{stop_refusal};
 ghost use Rattle.keeper_core.specs.Keeping.{IsAttached};
 ghost use Rattle.keeper_shelf.specs.Shelved.{IsOverFile, moment_of, new_shelf};
 
 use base_core::Refusal;
-use keeper_core::{Keeper, KeeperStop};
+use keeper_core::{Keeper, KeeperStop, Target};
 use keeper_mem::MemKeeper;
 use keeper_sqlite::SqliteKeeper;
-use programs::Target;
 use sqlite_database::Database;
 use std::alloc::Global;
 use std::marker::Model;

@@ -3,13 +3,13 @@ use Rattle.std.proofs.Common.{◌≡◌, ℕ, ◌^◌, ◌<◌, Bool, true, fals
 use Rattle.base_core.specs.Counts.{Rose, one_more}
 use Rattle.base_core.specs.declared.refusal.Refusal.{Refusal}
 use Rattle.base_core.specs.declared.refusal.Refusal.TheVariants.{Memory, KeeperFault}
-use Rattle.programs.specs.declared.sent.Sent.{Sent}
-use Rattle.programs.specs.declared.target.Target.{Target}
-use Rattle.programs.specs.declared.target.Target.TheVariants as targets
-use Rattle.programs.specs.Programs.{Run, as_refusal, ends_early, is_of_tables}
-use Rattle.programs.specs.Moment.{Ran, Refused}
-use Rattle.programs.specs.Store.{Store}
-use Rattle.programs.proofs.Counts.{no_fault, own_is_no_fault}
+use Rattle.keeper_core.specs.declared.sent.Sent.{Sent}
+use Rattle.keeper_core.specs.declared.target.Target.{Target}
+use Rattle.keeper_core.specs.declared.target.Target.TheVariants as targets
+use Rattle.keeper_core.specs.Programs.{Run, as_refusal, ends_early, is_of_tables}
+use Rattle.keeper_core.specs.Moment.{Ran, Refused}
+use Rattle.keeper_core.specs.Store.{Store}
+use Rattle.keeper_core.proofs.Counts.{no_fault, own_is_no_fault}
 use Rattle.keeper_core.specs.declared.keeper.KeeperStop.{KeeperStop}
 use Rattle.keeper_core.specs.declared.keeper.KeeperStop.TheVariants as stops
 use Rattle.keeper_core.specs.Calls.{stop_refusal}

@@ -2,11 +2,11 @@
 use Rattle.std.specs.Prelude.{◌≡◌, ◌<◌, ◌^◌, ℕ, Bool, false, Option, None, Some, Result, Ok, Err, MatchBool, refl}
 use Rattle.base_core.specs.Counts.{one_more}
 use Rattle.base_core.specs.declared.refusal.Refusal.{Refusal}
-use Rattle.programs.specs.declared.sent.Sent.{Sent}
-use Rattle.programs.specs.declared.target.Target.{Target}
-use Rattle.programs.specs.Moment.{Moment, Refused}
-use Rattle.programs.specs.Programs.{ends_early}
-use Rattle.programs.specs.Store.{Store}
+use Rattle.keeper_core.specs.declared.sent.Sent.{Sent}
+use Rattle.keeper_core.specs.declared.target.Target.{Target}
+use Rattle.keeper_core.specs.Moment.{Moment, Refused}
+use Rattle.keeper_core.specs.Programs.{ends_early}
+use Rattle.keeper_core.specs.Store.{Store}
 use Rattle.keeper_core.specs.declared.keeper.KeeperStop.{KeeperStop}
 use Rattle.keeper_core.specs.declared.keeper.KeeperStop.TheVariants as stops
 use Rattle.keeper_core.specs.Calls.{stop_refusal}

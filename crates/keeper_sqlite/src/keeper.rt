@@ -6,8 +6,8 @@ ghost use Rattle.base_core.specs.declared.refusal.Refusal.TheVariants.{Operation
 ghost use Rattle.schema_core.specs.Apply.{table_of};
 ghost use Rattle.schema_core.specs.WellFormed.{AreKeysFor, MayViolate};
 ghost use Rattle.sql_semantics.specs.Applied as bulk;
-ghost use Rattle.programs.specs.declared.sent.Sent.TheVariants as sent;
-ghost use Rattle.programs.specs.Programs.{as_refusal};
+ghost use Rattle.keeper_core.specs.declared.sent.Sent.TheVariants as sent;
+ghost use Rattle.keeper_core.specs.Programs.{as_refusal};
 ghost use Rattle.keeper_core.specs.Calls.{query_refusal, refusal_by, write_refusal};
 ghost use Rattle.keeper_core.specs.Keeping.{RefusesBulk, RefusesRow, RefusesSelect};
 ghost use Rattle.sqlite_selects.specs.ItemShapes.{AreAnswers};
@@ -16,8 +16,7 @@ ghost use Rattle.keeper_sqlite.specs.Counted.{Ends, Settles, Stops, new_keeper, 
 
 use base_core::{KeyList, RowList, TableId};
 use expr_types::{Bulk, Select};
-use keeper_core::{KeeperStop, QueryRefusal, WriteRefusal};
-use programs::Target;
+use keeper_core::{KeeperStop, QueryRefusal, Target, WriteRefusal};
 use schema_core::{RowStmt, Schema, Violation};
 use sqlite_database::{Database, Ending};
 use statement_log::StatementLog;
@@ -91,13 +90,6 @@ impl<D: Database + Drop> SqliteKeeper<D> {
             target: None,
             attached: false,
         }
-    }
-
-    /// Whether it was given a target, and took it.
-    pub fn is_attached(&self) -> bool
-        ensures { result ≡ self.now.attached }
-    {
-        self.attached
     }
 
     /// How many scopes are open.

@@ -7,7 +7,7 @@ use Rattle.base_core.specs.declared.ids.ObjId.{ObjId}
 use Rattle.base_core.specs.declared.ids.RelNo.{RelNo}
 use Rattle.class_mapping.specs.Mapped.{Mapped, relations_of}
 use Rattle.object_arena.specs.Graph.{Graph}
-use Rattle.load_selectin.specs.Selectin.{AreOwners, IsOwnerOf}
+use Rattle.load_queries.specs.Selectin.{AreOwners, IsOwnerOf}
 
 -- they have the relationship at a place of the class
 pub owners_known : (mapped : Mapped) (graph : Graph) (class : ClassId) (place : RelNo) (owners : List ObjId) → place.0 < length (relations_of mapped class) → All (IsOwnerOf mapped graph class) owners → AreOwners mapped graph place owners

@@ -13,7 +13,7 @@ use class_mapping::Mapping;
 use keeper_core::{Keeper, Notes};
 use load_calls::refresh;
 use load_lines::{is_made, objects_of};
-use load_selectin::load_selectin;
+use load_queries::load_selectin;
 use load_targets::load_lazy;
 use notations::{Page, number, parted};
 use object_arena::Arena;

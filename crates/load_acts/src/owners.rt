@@ -4,12 +4,12 @@ ghost use Rattle.std.specs.Prelude.{◌≡◌, ◌<◌, true, IfOk, OnOk};
 ghost use Rattle.std.specs.List.{All};
 ghost use Rattle.object_arena.specs.declared.object.State.TheVariants.{Persistent};
 ghost use Rattle.object_arena.specs.Graph.{IsObject, object_at};
-ghost use Rattle.load_selectin.specs.Selectin.{IsOwnerOf};
+ghost use Rattle.load_queries.specs.Selectin.{IsOwnerOf};
 
 use base_core::{ClassId, ListOf, ObjId, Refusal, RelNo};
 use class_mapping::Mapping;
 use load_lines::is_made;
-use load_selectin::is_owner;
+use load_queries::is_owner;
 use notations::number;
 use object_arena::{Arena, State};
 use std::alloc::Global;

@@ -6,16 +6,14 @@ ghost use Rattle.class_mapping.specs.Mapped.{IsClass};
 ghost use Rattle.object_arena.specs.Fit.{IsFit};
 ghost use Rattle.load_calls.specs.Reading.{IsReady, StaysReady};
 ghost use Rattle.load_queries.specs.Queries.{ReadsObjects};
-ghost use Rattle.load_selectin.specs.Selectin.{IsOption};
+ghost use Rattle.load_queries.specs.Selectin.{IsOption};
 
 use crate::owners::places_of;
 use base_core::{ClassId, ListOf, ObjList, Refusal, RelNo};
 use class_mapping::Mapping;
 use expr_types::ObjectQuery;
 use keeper_core::{Keeper, Notes};
-use load_joined::load_joined;
-use load_queries::{every_object, has_plain_select, let_go};
-use load_selectin::load_objects;
+use load_queries::{every_object, has_plain_select, let_go, load_joined, load_objects};
 use notations::{number, parted};
 use object_arena::Arena;
 use std::alloc::Global;

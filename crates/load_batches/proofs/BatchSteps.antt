@@ -17,20 +17,20 @@ use Rattle.class_mapping.specs.Mapped.{Mapped, root_spec}
 use Rattle.class_mapping.specs.Related.{IsRelated}
 use Rattle.mapping_laws.specs.Hierarchies.{HasHierarchies}
 use Rattle.object_arena.specs.Graph.{Graph}
-use Rattle.programs.specs.Alone.{alone}
-use Rattle.programs.specs.Beside.{moment_beside, on_own}
-use Rattle.programs.specs.Moment.{Moment, Reaches, Runs}
-use Rattle.programs.specs.Programs.{Run, each}
-use Rattle.programs.specs.Store.{Store}
-use Rattle.programs.proofs.AloneLemmas.{beside_alone}
-use Rattle.programs.proofs.Lifting.{chosen}
-use Rattle.programs.proofs.Sequence.{done, reaches_start, then_err, then_ok}
+use Rattle.keeper_core.specs.Alone.{alone}
+use Rattle.keeper_core.specs.Beside.{moment_beside, on_own}
+use Rattle.keeper_core.specs.Moment.{Moment, Reaches, Runs}
+use Rattle.keeper_core.specs.Programs.{Run, each}
+use Rattle.keeper_core.specs.Store.{Store}
+use Rattle.keeper_core.proofs.AloneLemmas.{beside_alone}
+use Rattle.keeper_core.proofs.Lifting.{chosen}
+use Rattle.keeper_core.proofs.Sequence.{done, reaches_start, then_err, then_ok}
 use Rattle.keeper_core.specs.declared.notes.Note.{Note}
 use Rattle.collection_selects.specs.Collections.{batch_select}
 use Rattle.load_rows.specs.Loading.{Loading, loading}
-use Rattle.load_laws.specs.Pairs.{IsMemberRow}
-use Rattle.load_laws.proofs.Pairs.Plainness.{batch_is_plain}
-use Rattle.load_laws.proofs.Pairs.Rows.{batch_rows_are_members}
+use Rattle.collection_selects.specs.Pairs.{IsMemberRow}
+use Rattle.collection_selects.proofs.Pairs.Plainness.{batch_is_plain}
+use Rattle.collection_selects.proofs.Pairs.Rows.{batch_rows_are_members}
 use Rattle.load_calls.specs.Reading.{World, read}
 use Rattle.load_batches.specs.Batches.{IsKeyed, batch_at, batch_starts, fill_batch, fill_owners, filled_by_batch, keys_of, load_batch, load_batches, load_each, load_from, load_members, read_batch, take_members, unloaded_owners}
 use Rattle.load_batches.specs.declared.members.Member.{Member}

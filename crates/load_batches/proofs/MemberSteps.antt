@@ -15,14 +15,14 @@ use Rattle.class_mapping.specs.Mapped.{Mapped}
 use Rattle.object_arena.specs.Every.{classes_of}
 use Rattle.object_arena.specs.Fit.{is_of_root}
 use Rattle.object_arena.specs.Graph.{Graph}
-use Rattle.programs.specs.Alone.{IsQuiet, alone}
-use Rattle.programs.specs.Moment.{Reaches, Runs}
-use Rattle.programs.specs.Programs.{each, give}
-use Rattle.programs.proofs.AloneLemmas.{change_ok, lost_alone, quietly_alone}
-use Rattle.programs.proofs.Sequence.{done, reaches_start, then_err, then_ok}
+use Rattle.keeper_core.specs.Alone.{IsQuiet, alone}
+use Rattle.keeper_core.specs.Moment.{Reaches, Runs}
+use Rattle.keeper_core.specs.Programs.{each, give}
+use Rattle.keeper_core.proofs.AloneLemmas.{change_ok, lost_alone, quietly_alone}
+use Rattle.keeper_core.proofs.Sequence.{done, reaches_start, then_err, then_ok}
 use Rattle.load_rows.specs.Loading.{Loading, take_row}
-use Rattle.load_laws.specs.Pairs.{owner_width}
-use Rattle.load_links.specs.Links.{collection_filled}
+use Rattle.collection_selects.specs.Pairs.{owner_width}
+use Rattle.load_rows.specs.Links.{collection_filled}
 use Rattle.load_batches.specs.Batches.{fill_owner, fill_owners, member_of, members_under, objects_in, owner_key_in, take_member, take_members, target_values}
 use Rattle.load_batches.specs.declared.members.Member.{Member}
 use Rattle.load_batches.specs.declared.owners.Owner.{Owner}

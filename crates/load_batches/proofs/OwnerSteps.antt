@@ -20,9 +20,9 @@ use Rattle.object_arena.specs.Graph.{Graph, object_at}
 use Rattle.object_arena.specs.Identity.{is_identified}
 use Rattle.load_filling.specs.Growing.{Grows}
 use Rattle.load_rows.specs.Reading.{identity_key}
-use Rattle.load_links.specs.Links.{link_at}
+use Rattle.load_rows.specs.Links.{link_at}
 use Rattle.load_calls.proofs.RefreshLemmas.{own_key_fits}
-use Rattle.load_collections.proofs.CollectionLemmas.{class_there, owner_key, owner_there, related_at, same_relation}
+use Rattle.load_calls.proofs.CollectionLemmas.{class_there, owner_key, owner_there, related_at, same_relation}
 use Rattle.load_batches.specs.Batches.{IsKeyed, IsOwned, IsOwner, batch_at, batch_size, is_unloaded, unloaded_owner, with_key}
 use Rattle.load_batches.specs.declared.owners.Owner.{Owner}
 

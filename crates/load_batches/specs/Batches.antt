@@ -13,8 +13,8 @@ use Rattle.schema_core.specs.WellFormed.{is_key}
 use Rattle.class_types.specs.declared.mapped.Relation.{Relation}
 use Rattle.class_sides.specs.Keys.{TableKey}
 use Rattle.class_mapping.specs.Mapped.{Mapped, relations_of, root_spec}
-use Rattle.programs.specs.Programs.{Run, ◌>>=◌, change, each, give}
-use Rattle.programs.specs.Beside.{by_own, on_own}
+use Rattle.keeper_core.specs.Programs.{Run, ◌>>=◌, change, each, give}
+use Rattle.keeper_core.specs.Beside.{by_own, on_own}
 use Rattle.object_arena.specs.declared.object.State.TheVariants.{Persistent}
 use Rattle.object_arena.specs.Fit.{relation_of}
 use Rattle.object_arena.specs.Graph.{Graph, IsObject, object_at}
@@ -24,8 +24,8 @@ use Rattle.collection_selects.specs.Collections.{batch_select}
 use Rattle.load_filling.specs.Rows.{value_in}
 use Rattle.load_rows.specs.Loading.{Loading, take_row}
 use Rattle.load_rows.specs.Reading.{identity_key}
-use Rattle.load_laws.specs.Pairs.{owner_width}
-use Rattle.load_links.specs.Links.{collection_filled, link_at}
+use Rattle.collection_selects.specs.Pairs.{owner_width}
+use Rattle.load_rows.specs.Links.{collection_filled, link_at}
 use Rattle.load_calls.specs.Reading.{World, read}
 use Rattle.load_targets.specs.ForeignKeys.{foreign_attrs}
 use Rattle.load_batches.specs.declared.owners.Owner.{Owner}

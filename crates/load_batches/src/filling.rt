@@ -6,8 +6,8 @@ ghost use Rattle.base_core.specs.declared.refusal.Refusal.TheVariants.{Memory};
 ghost use Rattle.class_mapping.specs.Mapped.{root_of};
 ghost use Rattle.object_arena.specs.Every.{classes_of};
 ghost use Rattle.object_arena.specs.Fit.{IsFit, is_of_root};
-ghost use Rattle.programs.specs.Alone.{alone};
-ghost use Rattle.programs.specs.Moment.{Runs};
+ghost use Rattle.keeper_core.specs.Alone.{alone};
+ghost use Rattle.keeper_core.specs.Moment.{Runs};
 ghost use Rattle.load_rows.specs.Loading.{loading};
 ghost use Rattle.load_batches.specs.Batches as spec;
 
@@ -17,7 +17,7 @@ use crate::owners::Owner;
 use base_core::{Refusal, RelNo};
 use class_mapping::{Mapping, Relation};
 use keeper_core::Notes;
-use load_links::fill_collection;
+use load_rows::fill_collection;
 use object_arena::Arena;
 use std::alloc::Global;
 

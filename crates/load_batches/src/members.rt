@@ -5,13 +5,13 @@ ghost use Rattle.std.specs.List.{All, AllByRecursion};
 ghost use Rattle.base_core.specs.declared.refusal.Refusal.TheVariants.{Memory};
 ghost use Rattle.class_mapping.specs.Mapped.{IsClass, root_of};
 ghost use Rattle.object_arena.specs.Fit.{IsFit, is_of_root};
-ghost use Rattle.programs.specs.Alone.{alone};
-ghost use Rattle.programs.specs.Moment.{Runs};
+ghost use Rattle.keeper_core.specs.Alone.{alone};
+ghost use Rattle.keeper_core.specs.Moment.{Runs};
 ghost use Rattle.load_filling.specs.Growing.{Grows};
 ghost use Rattle.load_filling.specs.Rows.{value_in};
 ghost use Rattle.load_rows.specs.Loading.{loading};
-ghost use Rattle.load_collections.specs.Refusals.{CanRefuseRow};
-ghost use Rattle.load_laws.specs.Pairs as member_rows;
+ghost use Rattle.load_calls.specs.Refusals.{CanRefuseRow};
+ghost use Rattle.collection_selects.specs.Pairs as member_rows;
 ghost use Rattle.load_batches.specs.Batches as spec;
 
 use crate::cuts::rest_from;

@@ -6,12 +6,12 @@ ghost use Rattle.base_core.specs.declared.refusal.Refusal.TheVariants.{Memory};
 ghost use Rattle.class_mapping.specs.Mapped.{relations_of};
 ghost use Rattle.object_arena.specs.Fit.{IsFit};
 ghost use Rattle.object_arena.specs.Graph.{IsObject, object_at};
-ghost use Rattle.load_links.specs.Links.{link_at};
+ghost use Rattle.load_rows.specs.Links.{link_at};
 ghost use Rattle.load_batches.specs.Batches as spec;
 
 use base_core::{Copied, Key, KeyList, ListOf, ObjId, Refusal, RelNo};
 use class_mapping::{Mapping, Relation};
-use load_links::identity_key;
+use load_rows::identity_key;
 use mapping_laws::has_hierarchies;
 use object_arena::Arena;
 use std::alloc::Global;

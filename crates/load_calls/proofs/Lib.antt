@@ -1,2 +1,5 @@
+pub mod CollectionLemmas
 pub mod ReadLemmas
 pub mod RefreshLemmas
+pub mod RefusalLemmas
+pub mod RowsLemmas

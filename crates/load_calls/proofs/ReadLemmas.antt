@@ -13,12 +13,12 @@ use Rattle.table_laws.proofs.Legality.{may_from_fits}
 use Rattle.expr_types.specs.declared.select.Select.{Select}
 use Rattle.sql_semantics.specs.Created.{bare}
 use Rattle.sql_semantics.specs.Shapes.{AreLegalRows, AreRows}
-use Rattle.programs.specs.declared.sent.Sent.TheVariants as sent
-use Rattle.programs.specs.Store.{Store}
-use Rattle.programs.specs.Programs.{ends_early}
-use Rattle.programs.specs.Moment.{AsTold, IsCutOff, IsRun, Moment, Runs, Told, parts}
-use Rattle.programs.specs.Beside.{IsNotedAs, Noted, moment_beside}
-use Rattle.programs.proofs.Lifting.{on_keeper_noted}
+use Rattle.keeper_core.specs.declared.sent.Sent.TheVariants as sent
+use Rattle.keeper_core.specs.Store.{Store}
+use Rattle.keeper_core.specs.Programs.{ends_early}
+use Rattle.keeper_core.specs.Moment.{AsTold, IsCutOff, IsRun, Moment, Runs, Told, parts}
+use Rattle.keeper_core.specs.Beside.{IsNotedAs, Noted, moment_beside}
+use Rattle.keeper_core.proofs.Lifting.{on_keeper_noted}
 use Rattle.keeper_core.specs.declared.notes.Note.{Note}
 use Rattle.keeper_core.specs.declared.notes.Note.TheVariants as note
 use Rattle.keeper_core.specs.Calls.{query}

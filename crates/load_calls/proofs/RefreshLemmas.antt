@@ -23,28 +23,28 @@ use Rattle.object_arena.specs.declared.object.State.TheVariants.{Transient, Pend
 use Rattle.object_arena.specs.Fit.{ObjectFits, identity_fits, key_fits, value_fits}
 use Rattle.object_arena.specs.Graph.{Graph, has_identity, object_at}
 use Rattle.object_arena.specs.Identity.{is_identified}
-use Rattle.programs.specs.declared.sent.Sent.TheVariants as sent
-use Rattle.programs.specs.Alone.{IsQuiet}
-use Rattle.programs.specs.Beside.{moment_beside, on_own}
-use Rattle.programs.specs.Moment.{Moment, Runs, parts}
-use Rattle.programs.specs.Programs.{Run, quiet}
-use Rattle.programs.specs.Store.{Store}
-use Rattle.programs.proofs.Lifting.{chosen, quietly}
-use Rattle.programs.proofs.Sequence.{done, then_err, then_ok}
+use Rattle.keeper_core.specs.declared.sent.Sent.TheVariants as sent
+use Rattle.keeper_core.specs.Alone.{IsQuiet}
+use Rattle.keeper_core.specs.Beside.{moment_beside, on_own}
+use Rattle.keeper_core.specs.Moment.{Moment, Runs, parts}
+use Rattle.keeper_core.specs.Programs.{Run, quiet}
+use Rattle.keeper_core.specs.Store.{Store}
+use Rattle.keeper_core.proofs.Lifting.{chosen, quietly}
+use Rattle.keeper_core.proofs.Sequence.{done, then_err, then_ok}
 use Rattle.keeper_core.specs.declared.notes.Note.{Note}
 use Rattle.keeper_core.specs.declared.notes.Note.TheVariants as note
 use Rattle.sql_semantics.specs.Plain.{IsPlainSelect}
 use Rattle.sql_semantics.specs.Shapes.{AreOfItems}
 use Rattle.mapping_laws.specs.Hierarchies.{HasHierarchies}
 use Rattle.mapping_laws.proofs.Ties.{class_tables}
-use Rattle.load_laws.proofs.ClassLemmas.{cells_are_plain}
+use Rattle.collection_selects.proofs.ClassLemmas.{cells_are_plain}
 use Rattle.mapping_laws.proofs.KeyKinds.{keys_alike}
-use Rattle.load_laws.proofs.Rows.{are_cells}
+use Rattle.collection_selects.proofs.Rows.{are_cells}
 use Rattle.load_selects.specs.Selects.{cells_select}
 use Rattle.load_filling.specs.Filled.{AreFoundFor, value_found, value_or_none}
 use Rattle.load_rows.specs.Loading.{Loading, filled, loading}
 use Rattle.load_rows.specs.Reading.{identity_key}
-use Rattle.load_laws.specs.Rows.{AreCellsOf}
+use Rattle.collection_selects.specs.Rows.{AreCellsOf}
 use Rattle.load_calls.specs.Reading.{read}
 use Rattle.load_calls.proofs.ReadLemmas.{passed_refusal}
 use Rattle.keeper_core.specs.Keeping.{RefusesSelect}

@@ -1,2 +1,4 @@
+pub mod Collections
 pub mod Reading
 pub mod Refreshing
+pub mod Refusals

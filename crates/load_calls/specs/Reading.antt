@@ -4,11 +4,11 @@ use Rattle.base_core.specs.declared.value.Value.{Value}
 use Rattle.base_core.specs.declared.refusal.Refusal.{Refusal}
 use Rattle.schema_core.specs.Catalog.{Catalog}
 use Rattle.expr_types.specs.declared.select.Select.{Select}
-use Rattle.programs.specs.declared.sent.Sent.{Sent}
-use Rattle.programs.specs.Programs.{Event, Run, Sends, Writes, ends_early}
-use Rattle.programs.specs.Beside.{Beside, on_store}
-use Rattle.programs.specs.Moment.{Moment}
-use Rattle.programs.specs.Store.{Store}
+use Rattle.keeper_core.specs.declared.sent.Sent.{Sent}
+use Rattle.keeper_core.specs.Programs.{Event, Run, Sends, Writes, ends_early}
+use Rattle.keeper_core.specs.Beside.{Beside, on_store}
+use Rattle.keeper_core.specs.Moment.{Moment}
+use Rattle.keeper_core.specs.Store.{Store}
 use Rattle.keeper_core.specs.declared.notes.Note.{Note}
 use Rattle.keeper_core.specs.declared.notes.Note.TheVariants as note
 use Rattle.keeper_core.specs.Calls as call

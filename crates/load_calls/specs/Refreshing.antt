@@ -9,11 +9,11 @@ use Rattle.base_core.specs.declared.refusal.Refusal.{Refusal}
 use Rattle.base_core.specs.declared.refusal.Refusal.TheVariants.{DataError, KeeperFault, Memory, ObjectDeletedError, OperationalError}
 use Rattle.schema_core.specs.Catalog.{IsTable}
 use Rattle.class_mapping.specs.Mapped.{Mapped}
-use Rattle.programs.specs.declared.sent.Sent.TheVariants as sent
-use Rattle.programs.specs.Store.{Store}
-use Rattle.programs.specs.Programs.{Run, ◌>>=◌, give, quiet}
-use Rattle.programs.specs.Moment.{IsCalm, Moment, counters}
-use Rattle.programs.specs.Beside.{by_own, on_own}
+use Rattle.keeper_core.specs.declared.sent.Sent.TheVariants as sent
+use Rattle.keeper_core.specs.Store.{Store}
+use Rattle.keeper_core.specs.Programs.{Run, ◌>>=◌, give, quiet}
+use Rattle.keeper_core.specs.Moment.{IsCalm, Moment, counters}
+use Rattle.keeper_core.specs.Beside.{by_own, on_own}
 use Rattle.object_arena.specs.declared.object.Cell.{Cell}
 use Rattle.object_arena.specs.declared.object.Object.{Object}
 use Rattle.object_arena.specs.Graph.{object_at}

@@ -14,15 +14,15 @@ use Rattle.class_mapping.specs.Mapped.{IsClass, Mapped, relations_of, root_of}
 use Rattle.object_arena.specs.Fit.{relation_of}
 use Rattle.object_arena.specs.Graph.{Graph, object_at}
 use Rattle.object_arena.specs.Identity.{find_identity}
-use Rattle.programs.specs.Alone.{alone}
-use Rattle.programs.specs.Moment.{Reaches, Runs}
-use Rattle.programs.specs.Programs.{each}
-use Rattle.programs.proofs.AloneLemmas.{change_ok, lost_alone}
-use Rattle.programs.proofs.Sequence.{reaches_start}
+use Rattle.keeper_core.specs.Alone.{alone}
+use Rattle.keeper_core.specs.Moment.{Reaches, Runs}
+use Rattle.keeper_core.specs.Programs.{each}
+use Rattle.keeper_core.proofs.AloneLemmas.{change_ok, lost_alone}
+use Rattle.keeper_core.proofs.Sequence.{reaches_start}
 use Rattle.load_filling.specs.Growing.{Grows}
 use Rattle.load_rows.specs.Loading.{Loading}
-use Rattle.load_links.specs.Links.{end_filled}
-use Rattle.load_collections.proofs.CollectionLemmas.{class_there, owner_there, same_relation}
+use Rattle.load_rows.specs.Links.{end_filled}
+use Rattle.load_calls.proofs.CollectionLemmas.{class_there, owner_there, same_relation}
 use Rattle.load_targets.specs.Targets.{if_of}
 use Rattle.load_ends.specs.Ends.{IsChild, end_known, fill_owner, fill_owners, key_of, known_end}
 

@@ -14,25 +14,25 @@ use Rattle.class_mapping.specs.Mapped.{IsClass, Mapped}
 use Rattle.mapping_laws.specs.Hierarchies.{HasHierarchies}
 use Rattle.mapping_laws.proofs.Ties.{class_tables}
 use Rattle.object_arena.specs.Graph.{Graph}
-use Rattle.programs.specs.Alone.{alone}
-use Rattle.programs.specs.Beside.{moment_beside, on_own}
-use Rattle.programs.specs.Moment.{Moment, Reaches, Runs}
-use Rattle.programs.specs.Programs.{Run, each, give}
-use Rattle.programs.specs.Store.{Store}
-use Rattle.programs.proofs.AloneLemmas.{beside_alone}
-use Rattle.programs.proofs.Lifting.{chosen}
-use Rattle.programs.proofs.Sequence.{done, reaches_start, then_err, then_ok}
+use Rattle.keeper_core.specs.Alone.{alone}
+use Rattle.keeper_core.specs.Beside.{moment_beside, on_own}
+use Rattle.keeper_core.specs.Moment.{Moment, Reaches, Runs}
+use Rattle.keeper_core.specs.Programs.{Run, each, give}
+use Rattle.keeper_core.specs.Store.{Store}
+use Rattle.keeper_core.proofs.AloneLemmas.{beside_alone}
+use Rattle.keeper_core.proofs.Lifting.{chosen}
+use Rattle.keeper_core.proofs.Sequence.{done, reaches_start, then_err, then_ok}
 use Rattle.keeper_core.specs.declared.notes.Note.{Note}
 use Rattle.load_columns.specs.Conditions.{has_one_of}
 use Rattle.load_columns.specs.Placing.{from_root, root_key}
 use Rattle.load_selects.specs.Selects.{targets_select}
-use Rattle.load_laws.proofs.ClassLemmas.{targets_are_plain}
+use Rattle.collection_selects.proofs.ClassLemmas.{targets_are_plain}
 use Rattle.mapping_laws.proofs.KeyKinds.{keys_alike}
-use Rattle.load_laws.proofs.Rows.{are_rows}
+use Rattle.collection_selects.proofs.Rows.{are_rows}
 use Rattle.load_rows.specs.Loading.{Loading, loading}
 use Rattle.load_rows.specs.Reading.{IsRowOf}
 use Rattle.load_calls.specs.Reading.{World, read}
-use Rattle.load_collections.specs.Collections.{take_rows}
+use Rattle.load_calls.specs.Collections.{take_rows}
 use Rattle.load_batches.specs.Batches.{batch_at, batch_starts}
 use Rattle.load_ends.specs.Ends.{FitsClass, fill_owners, load_all, load_each, load_ends, load_from, load_keys, load_unloaded, read_keys, take_targets, unloaded, wanted_keys}
 

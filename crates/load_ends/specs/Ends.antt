@@ -11,16 +11,16 @@ use Rattle.base_core.specs.Order.{values_cmp}
 use Rattle.schema_core.specs.Tables.{has_null, same_values}
 use Rattle.class_types.specs.declared.mapped.Relation.{Relation}
 use Rattle.class_mapping.specs.Mapped.{Mapped, relations_of, root_of}
-use Rattle.programs.specs.Programs.{Run, ◌>>=◌, change, each, give}
-use Rattle.programs.specs.Beside.{by_own, on_own}
+use Rattle.keeper_core.specs.Programs.{Run, ◌>>=◌, change, each, give}
+use Rattle.keeper_core.specs.Beside.{by_own, on_own}
 use Rattle.object_arena.specs.Fit.{key_fits, relation_of}
 use Rattle.object_arena.specs.Graph.{Graph, IsObject, object_at}
 use Rattle.object_arena.specs.Identity.{find_identity}
 use Rattle.load_selects.specs.Selects.{targets_select}
 use Rattle.load_rows.specs.Loading.{Loading}
-use Rattle.load_links.specs.Links.{end_filled, link_at}
+use Rattle.load_rows.specs.Links.{end_filled, link_at}
 use Rattle.load_calls.specs.Reading.{World, read}
-use Rattle.load_collections.specs.Collections.{take_rows}
+use Rattle.load_calls.specs.Collections.{take_rows}
 use Rattle.load_targets.specs.ForeignKeys.{foreign_key}
 use Rattle.load_targets.specs.Targets.{if_of}
 use Rattle.load_batches.specs.Batches.{batch_at, batch_starts, is_unloaded}

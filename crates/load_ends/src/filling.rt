@@ -6,15 +6,15 @@ ghost use Rattle.base_core.specs.declared.refusal.Refusal.TheVariants.{Memory};
 ghost use Rattle.class_mapping.specs.Mapped.{IsClass, root_of};
 ghost use Rattle.object_arena.specs.Every.{classes_of};
 ghost use Rattle.object_arena.specs.Fit.{IsFit, end_fits};
-ghost use Rattle.programs.specs.Alone.{alone};
-ghost use Rattle.programs.specs.Moment.{Runs};
+ghost use Rattle.keeper_core.specs.Alone.{alone};
+ghost use Rattle.keeper_core.specs.Moment.{Runs};
 ghost use Rattle.load_rows.specs.Loading.{loading};
 ghost use Rattle.load_ends.specs.Ends as spec;
 
 use base_core::{ClassId, Key, ObjId, Refusal, RelNo};
 use class_mapping::{Mapping, Relation};
 use keeper_core::Notes;
-use load_links::fill_end;
+use load_rows::fill_end;
 use load_targets::{has_null, if_of, target_key};
 use object_arena::Arena;
 use std::alloc::Global;

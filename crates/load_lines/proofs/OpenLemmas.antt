@@ -5,19 +5,19 @@ use Rattle.base_core.specs.declared.value.Value.{Value}
 use Rattle.schema_core.specs.Catalog.{Catalog}
 use Rattle.schema_core.specs.WellFormed.{IsWellFormed}
 use Rattle.schema_core.specs.declared.statement.RowStmt.{RowStmt}
-use Rattle.programs.specs.declared.sent.Sent.TheVariants as sent
-use Rattle.programs.specs.declared.target.Target.TheVariants as targets
-use Rattle.programs.specs.Moment.{Moment, parts}
-use Rattle.programs.specs.Programs.{Run, as_refusal}
-use Rattle.programs.specs.Store.{Store}
+use Rattle.keeper_core.specs.declared.sent.Sent.TheVariants as sent
+use Rattle.keeper_core.specs.declared.target.Target.TheVariants as targets
+use Rattle.keeper_core.specs.Moment.{Moment, parts}
+use Rattle.keeper_core.specs.Programs.{Run, as_refusal}
+use Rattle.keeper_core.specs.Store.{Store}
 use Rattle.keeper_core.specs.declared.keeper.KeeperStop.{KeeperStop}
 use Rattle.keeper_core.specs.Calls.{stop_refusal, write}
 use Rattle.keeper_core.specs.Keeping.{IsAttached, IsCall, IsCoherent, IsWrite, RefusesRow}
-use Rattle.legality_laws.specs.Legality.{AreSound, KeepsLegal}
-use Rattle.legality_laws.proofs.Dropped.{no_tables_sound}
-use Rattle.legality_laws.proofs.EachCall.{write_legal}
-use Rattle.legality_laws.proofs.HeldRows.{holds_legal_rows}
-use Rattle.legality_laws.proofs.Telling.{told_attached, told_called, told_stated}
+use Rattle.table_laws.specs.Legality.{AreSound, KeepsLegal}
+use Rattle.table_laws.proofs.Dropped.{no_tables_sound}
+use Rattle.table_laws.proofs.EachCall.{write_legal}
+use Rattle.table_laws.proofs.HeldRows.{holds_legal_rows}
+use Rattle.table_laws.proofs.Telling.{told_attached, told_called, told_stated}
 use Rattle.load_calls.specs.Reading.{IsReady}
 use Rattle.load_lines.specs.Opened.{IsOpen}
 

@@ -7,9 +7,9 @@ ghost use Rattle.load_calls.specs.Reading.{IsReady};
 ghost use Rattle.load_lines.specs.Opened.{IsOpen};
 
 use base_core::{ListOf, Refusal, TableId};
-use fitting_statements::fits_schema;
 use keeper_core::{Keeper, Target, calls};
 use notations::{Page, parted};
+use plan_statements::fits_schema;
 use schema_core::{RowStmt, Schema};
 use std::alloc::Global;
 

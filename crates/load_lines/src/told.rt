@@ -2,12 +2,12 @@
 
 use base_core::{ObjId, ObjList, Refusal, RequestKind};
 use class_mapping::Mapping;
-use dialects::sqlite::compile;
 use expr_types::{CopiedIn, Select, Statement};
 use keeper_core::{Note, Notes, Sent};
 use notations::Page;
 use object_arena::{Arena, Cell, Link, Object};
 use sql_statements::has_cuts;
+use sql_statements::sqlite::compile;
 use std::mem::drop;
 
 fn word_of(refusal: &Refusal) -> &'static str {

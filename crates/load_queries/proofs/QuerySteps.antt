@@ -12,21 +12,21 @@ use Rattle.sql_semantics.specs.Plain.{IsPlainSelect}
 use Rattle.sql_semantics.specs.Shapes.{AreGiven, AreOfItems}
 use Rattle.class_mapping.specs.Mapped.{IsClass, Mapped}
 use Rattle.mapping_laws.specs.Hierarchies.{HasHierarchies}
-use Rattle.programs.specs.Alone.{alone}
-use Rattle.programs.specs.Beside.{moment_beside, on_own}
-use Rattle.programs.specs.Moment.{Moment, Runs}
-use Rattle.programs.specs.Programs.{give}
-use Rattle.programs.specs.Store.{Store}
-use Rattle.programs.proofs.AloneLemmas.{beside_alone, lost_alone}
-use Rattle.programs.proofs.Sequence.{done, then_err, then_ok}
+use Rattle.keeper_core.specs.Alone.{alone}
+use Rattle.keeper_core.specs.Beside.{moment_beside, on_own}
+use Rattle.keeper_core.specs.Moment.{Moment, Runs}
+use Rattle.keeper_core.specs.Programs.{give}
+use Rattle.keeper_core.specs.Store.{Store}
+use Rattle.keeper_core.proofs.AloneLemmas.{beside_alone, lost_alone}
+use Rattle.keeper_core.proofs.Sequence.{done, then_err, then_ok}
 use Rattle.mapping_laws.proofs.Ties.{class_tables}
 use Rattle.load_selects.specs.Selects.{class_rows}
-use Rattle.load_laws.proofs.ClassLemmas.{rows_plain}
-use Rattle.load_laws.proofs.Rows.{are_read, reads_rows}
+use Rattle.collection_selects.proofs.ClassLemmas.{rows_plain}
+use Rattle.collection_selects.proofs.Rows.{are_read, reads_rows}
 use Rattle.load_rows.specs.Loading.{Loading}
 use Rattle.load_rows.specs.Reading.{IsRowOf}
 use Rattle.load_calls.specs.Reading.{read}
-use Rattle.load_collections.specs.Collections.{take_rows}
+use Rattle.load_calls.specs.Collections.{take_rows}
 use Rattle.load_queries.specs.Queries.{ReadsObjects, firsts, load_select, take_objects}
 
 abbrev Rows : Type 0

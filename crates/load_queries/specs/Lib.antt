@@ -1,1 +1,3 @@
+pub mod Joined
 pub mod Queries
+pub mod Selectin

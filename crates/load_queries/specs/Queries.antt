@@ -9,14 +9,14 @@ use Rattle.expr_types.specs.declared.select.ObjectQuery.{ObjectQuery}
 use Rattle.expr_types.specs.declared.select.Select.{Select}
 use Rattle.sql_semantics.specs.Plain.{sources_of}
 use Rattle.class_mapping.specs.Mapped.{Mapped, tables_of}
-use Rattle.programs.specs.Programs.{Run, ◌>>=◌, give}
-use Rattle.programs.specs.Beside.{on_own}
+use Rattle.keeper_core.specs.Programs.{Run, ◌>>=◌, give}
+use Rattle.keeper_core.specs.Beside.{on_own}
 pub use Rattle.object_parts.specs.Lists.{firsts, with_first}
 use Rattle.load_columns.specs.Placing.{attribute_columns, from_root}
 use Rattle.load_selects.specs.Selects.{class_rows, item_of, origin_of}
 use Rattle.load_rows.specs.Loading.{Loading}
 use Rattle.load_calls.specs.Reading.{World, read}
-use Rattle.load_collections.specs.Collections.{take_rows}
+use Rattle.load_calls.specs.Collections.{take_rows}
 
 -- ---- the query
 

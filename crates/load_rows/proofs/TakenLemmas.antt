@@ -25,8 +25,8 @@ use Rattle.object_arena.specs.Every.{classes_of}
 use Rattle.object_arena.specs.Fit.{is_of_kind, value_fits}
 use Rattle.object_arena.specs.Graph.{Graph, IsObject, no_class_id, object_limit, place_of, root_at}
 use Rattle.object_arena.specs.Identity.{find_identity}
-use Rattle.programs.specs.Alone.{IsOwn, IsQuiet}
-use Rattle.programs.specs.Programs.{Run, quiet}
+use Rattle.keeper_core.specs.Alone.{IsOwn, IsQuiet}
+use Rattle.keeper_core.specs.Programs.{Run, quiet}
 use Rattle.keeper_core.specs.declared.notes.Note.{Note}
 use Rattle.mapping_laws.proofs.Attributes.{attribute_kind, one_kind}
 use Rattle.load_filling.specs.Filled.{AreFoundFor, value_found, value_or_none}

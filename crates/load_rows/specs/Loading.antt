@@ -8,7 +8,7 @@ use Rattle.base_core.specs.declared.value.Value.{Value}
 use Rattle.base_core.specs.declared.refusal.Refusal.{Refusal}
 use Rattle.class_types.specs.declared.mapped.Attribute.{Attribute}
 use Rattle.class_mapping.specs.Mapped.{Mapped, attributes_of}
-use Rattle.programs.specs.Programs.{Run, quiet}
+use Rattle.keeper_core.specs.Programs.{Run, quiet}
 use Rattle.keeper_core.specs.declared.notes.Note.{Note}
 use Rattle.keeper_core.specs.declared.notes.Note.TheVariants as note
 use Rattle.object_arena.specs.declared.object.Cell.{Cell}

@@ -7,7 +7,7 @@ ghost use Rattle.base_core.specs.declared.refusal.Refusal.TheVariants.{Memory};
 ghost use Rattle.class_mapping.specs.Mapped.{IsClass, root_of};
 ghost use Rattle.object_arena.specs.Fit.{IsFit, KeepsWith};
 ghost use Rattle.object_arena.specs.Graph.{IsObject, object_at, root_at};
-ghost use Rattle.programs.specs.Alone.{IsQuiet};
+ghost use Rattle.keeper_core.specs.Alone.{IsQuiet};
 ghost use Rattle.load_filling.specs.Filled.{AreFoundFor};
 ghost use Rattle.load_filling.specs.Growing.{Grows};
 ghost use Rattle.load_rows.specs.Loading as spec;

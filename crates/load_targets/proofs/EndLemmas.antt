@@ -17,27 +17,27 @@ use Rattle.object_arena.specs.Fit.{IsFit, end_fits, key_fits}
 use Rattle.object_arena.specs.Graph.{Graph, IsObject, is_persistent, object_at, root_at}
 use Rattle.object_arena.specs.Identity.{find_identity, has_key, holds}
 use Rattle.relations.specs.Mirror.{is_of}
-use Rattle.programs.specs.Alone.{IsQuiet, alone}
-use Rattle.programs.specs.Beside.{by_own, moment_beside, on_own}
-use Rattle.programs.specs.Moment.{Moment, Runs}
-use Rattle.programs.specs.Programs.{Run, ◌>>=◌, give}
-use Rattle.programs.specs.Store.{Store}
-use Rattle.programs.proofs.AloneLemmas.{beside_alone, quietly_alone}
-use Rattle.programs.proofs.Lifting.{chosen}
-use Rattle.programs.proofs.Sequence.{done, then_err, then_ok}
+use Rattle.keeper_core.specs.Alone.{IsQuiet, alone}
+use Rattle.keeper_core.specs.Beside.{by_own, moment_beside, on_own}
+use Rattle.keeper_core.specs.Moment.{Moment, Runs}
+use Rattle.keeper_core.specs.Programs.{Run, ◌>>=◌, give}
+use Rattle.keeper_core.specs.Store.{Store}
+use Rattle.keeper_core.proofs.AloneLemmas.{beside_alone, quietly_alone}
+use Rattle.keeper_core.proofs.Lifting.{chosen}
+use Rattle.keeper_core.proofs.Sequence.{done, then_err, then_ok}
 use Rattle.keeper_core.specs.declared.notes.Note.{Note}
 use Rattle.mapping_laws.specs.Hierarchies.{HasHierarchies}
 use Rattle.mapping_laws.proofs.Ties.{class_tables}
 use Rattle.load_columns.specs.Conditions.{has_values}
 use Rattle.load_columns.specs.Placing.{from_root, root_key}
 use Rattle.load_selects.specs.Selects.{key_select}
-use Rattle.load_laws.proofs.ClassLemmas.{key_is_plain}
+use Rattle.collection_selects.proofs.ClassLemmas.{key_is_plain}
 use Rattle.mapping_laws.proofs.KeyKinds.{keys_alike}
-use Rattle.load_laws.proofs.Rows.{are_rows}
+use Rattle.collection_selects.proofs.Rows.{are_rows}
 use Rattle.load_rows.specs.Loading.{Loading, loading, take_row}
 use Rattle.load_rows.specs.Reading.{IsRowOf}
 use Rattle.load_calls.specs.Reading.{World, read}
-use Rattle.load_collections.proofs.RowsLemmas.{object_of}
+use Rattle.load_calls.proofs.RowsLemmas.{object_of}
 use Rattle.load_targets.specs.Targets.{find_or_load, found_or_load, if_of, load_key, take_first}
 
 abbrev Rows : Type 0

@@ -42,12 +42,12 @@ use Rattle.mapping_laws.specs.Hierarchies.{HasHierarchies, kinds_of}
 use Rattle.mapping_laws.proofs.Attributes.{of_column}
 use Rattle.mapping_laws.proofs.Tables.{tables_declared}
 use Rattle.mapping_laws.proofs.Ties.{class_tables, table_faultless}
-use Rattle.load_laws.proofs.Keys.{turned_kind}
-use Rattle.load_laws.proofs.MemberLemmas.{among_has, foreign_kinds, kinds_along, place_in, referred}
-use Rattle.load_laws.proofs.Standing.{is_of}
-use Rattle.load_laws.proofs.Typed.{fit_kinds}
+use Rattle.collection_selects.proofs.Keys.{turned_kind}
+use Rattle.collection_selects.proofs.MemberLemmas.{among_has, foreign_kinds, kinds_along, place_in, referred}
+use Rattle.collection_selects.proofs.Standing.{is_of}
+use Rattle.collection_selects.proofs.Typed.{fit_kinds}
 use Rattle.mapping_laws.proofs.KeyKinds.{keys_alike}
-use Rattle.load_links.proofs.LinkLemmas.{pointwise_at}
+use Rattle.load_rows.proofs.LinkLemmas.{pointwise_at}
 use Rattle.load_targets.specs.ForeignKeys.{attr_named, foreign_attrs, foreign_key, value_at}
 
 -- ---- values

@@ -16,22 +16,22 @@ use Rattle.object_arena.specs.declared.object.Object.{Object}
 use Rattle.object_arena.specs.Every.{classes_of}
 use Rattle.object_arena.specs.Fit.{ObjectFits, key_fits, no_relation, relation_of}
 use Rattle.object_arena.specs.Graph.{Graph, object_at}
-use Rattle.programs.specs.Beside.{changes, moment_beside}
-use Rattle.programs.specs.Moment.{Moment, Runs}
-use Rattle.programs.specs.Store.{Store}
-use Rattle.programs.proofs.Lifting.{chosen, then_ends}
-use Rattle.programs.proofs.Sequence.{done, then_err, then_ok}
+use Rattle.keeper_core.specs.Beside.{changes, moment_beside}
+use Rattle.keeper_core.specs.Moment.{Moment, Runs}
+use Rattle.keeper_core.specs.Store.{Store}
+use Rattle.keeper_core.proofs.Lifting.{chosen, then_ends}
+use Rattle.keeper_core.proofs.Sequence.{done, then_err, then_ok}
 use Rattle.keeper_core.specs.declared.notes.Note.{Note}
 use Rattle.mapping_laws.specs.Hierarchies.{HasHierarchies}
 use Rattle.load_filling.specs.Growing.{Grows}
 use Rattle.load_filling.proofs.LoadedLemmas.{grows_same}
 use Rattle.load_rows.specs.Loading.{Loading, loading}
-use Rattle.load_links.specs.Links.{end_filled}
+use Rattle.load_rows.specs.Links.{end_filled}
 use Rattle.load_calls.specs.Refreshing.{IsShownDeleted, Scene, refresh}
 use Rattle.load_calls.proofs.ReadLemmas.{passed_refusal}
-use Rattle.load_collections.specs.Collections.{load_collection}
-use Rattle.load_collections.specs.Refusals.{CanRefuseRows}
-use Rattle.load_collections.proofs.CollectionLemmas.{related_at}
+use Rattle.load_calls.specs.Collections.{load_collection}
+use Rattle.load_calls.specs.Refusals.{CanRefuseRows}
+use Rattle.load_calls.proofs.CollectionLemmas.{related_at}
 use Rattle.load_targets.specs.ForeignKeys.{foreign_attrs, foreign_key, is_expired_among, is_key_expired, values_at}
 use Rattle.load_targets.specs.Targets.{find_or_load, load_by, load_end, load_lazy, load_target, read_target, refresh_if, refresh_key}
 use Rattle.load_targets.proofs.KeyLemmas.{one_without, target_key_fits}

@@ -7,18 +7,18 @@ use Rattle.base_core.specs.declared.value.Value.{Value}
 use Rattle.schema_core.specs.Tables.{has_null}
 use Rattle.class_types.specs.declared.mapped.Relation.{Relation}
 use Rattle.class_mapping.specs.Mapped.{Mapped, root_of}
-use Rattle.programs.specs.Programs.{Run, ◌>>=◌, give}
-use Rattle.programs.specs.Beside.{by_own, changes, on_own}
+use Rattle.keeper_core.specs.Programs.{Run, ◌>>=◌, give}
+use Rattle.keeper_core.specs.Beside.{by_own, changes, on_own}
 use Rattle.object_arena.specs.Fit.{relation_of}
 use Rattle.object_arena.specs.Graph.{Graph, object_at}
 use Rattle.object_arena.specs.Identity.{find_identity}
 use Rattle.relations.specs.Mirror.{is_of}
 use Rattle.load_selects.specs.Selects.{key_select}
 use Rattle.load_rows.specs.Loading.{Loading, take_row}
-use Rattle.load_links.specs.Links.{end_filled}
+use Rattle.load_rows.specs.Links.{end_filled}
 use Rattle.load_calls.specs.Reading.{World, read}
 use Rattle.load_calls.specs.Refreshing.{refresh}
-use Rattle.load_collections.specs.Collections.{load_collection}
+use Rattle.load_calls.specs.Collections.{load_collection}
 use Rattle.load_targets.specs.ForeignKeys.{foreign_key, is_key_expired}
 
 -- ---- one object by its key

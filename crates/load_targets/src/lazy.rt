@@ -5,21 +5,21 @@ ghost use Rattle.class_mapping.specs.Mapped.{relations_of};
 ghost use Rattle.object_arena.specs.declared.object.State.TheVariants.{Persistent};
 ghost use Rattle.object_arena.specs.Fit.{IsFit, relation_of};
 ghost use Rattle.object_arena.specs.Graph.{IsObject, object_at};
-ghost use Rattle.programs.specs.Beside.{moment_beside};
-ghost use Rattle.programs.specs.Moment.{Runs};
+ghost use Rattle.keeper_core.specs.Beside.{moment_beside};
+ghost use Rattle.keeper_core.specs.Moment.{Runs};
 ghost use Rattle.load_filling.specs.Growing.{Grows};
 ghost use Rattle.load_rows.specs.Loading.{loading};
 ghost use Rattle.load_calls.specs.Reading.{IsReady, StaysReady};
 ghost use Rattle.load_calls.specs.Refreshing.{IsShownDeleted};
-ghost use Rattle.load_collections.specs.Refusals.{CanRefuseLoad};
+ghost use Rattle.load_calls.specs.Refusals.{CanRefuseLoad};
 ghost use Rattle.load_targets.specs.Targets as spec;
 
 use crate::targets::load_target;
 use base_core::{ObjId, Refusal, RelNo};
 use class_mapping::Mapping;
 use keeper_core::{Keeper, Notes};
-use load_collections::load_collection;
-use load_links::relation_at;
+use load_calls::load_collection;
+use load_rows::relation_at;
 use object_arena::Arena;
 use std::alloc::Global;
 

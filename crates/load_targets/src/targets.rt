@@ -8,13 +8,13 @@ ghost use Rattle.object_arena.specs.declared.object.State.TheVariants.{Persisten
 ghost use Rattle.object_arena.specs.Every.{classes_of};
 ghost use Rattle.object_arena.specs.Fit.{IsFit, end_fits, key_fits, relation_of};
 ghost use Rattle.object_arena.specs.Graph.{IsObject, object_at};
-ghost use Rattle.programs.specs.Beside.{moment_beside};
-ghost use Rattle.programs.specs.Moment.{Runs};
+ghost use Rattle.keeper_core.specs.Beside.{moment_beside};
+ghost use Rattle.keeper_core.specs.Moment.{Runs};
 ghost use Rattle.load_filling.specs.Growing.{Grows};
 ghost use Rattle.load_rows.specs.Loading.{loading};
 ghost use Rattle.load_calls.specs.Reading.{IsReady, StaysReady};
 ghost use Rattle.load_calls.specs.Refreshing.{CanRefuse, IsShownDeleted};
-ghost use Rattle.load_collections.specs.Refusals.{CanRefuseLoad, CanRefuseRows};
+ghost use Rattle.load_calls.specs.Refusals.{CanRefuseLoad, CanRefuseRows};
 ghost use Rattle.load_targets.specs.ForeignKeys.{foreign_key};
 ghost use Rattle.load_targets.specs.Targets as spec;
 
@@ -24,7 +24,7 @@ use base_core::{Key, ObjId, Refusal, RelNo};
 use class_mapping::{Mapping, Relation};
 use keeper_core::{Keeper, Notes};
 use load_calls::refresh;
-use load_links::{fill_end, relation_at};
+use load_rows::{fill_end, relation_at};
 use mapping_laws::has_hierarchies;
 use object_arena::Arena;
 use std::alloc::Global;

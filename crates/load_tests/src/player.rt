@@ -2,7 +2,7 @@
 
 ghost use Rattle.std.specs.Prelude.{◌≡◌, None, true, false, IfErr, OnOk};
 ghost use Rattle.object_arena.specs.Fit.{IsFit};
-ghost use Rattle.programs.specs.Programs.{ends_early};
+ghost use Rattle.keeper_core.specs.Programs.{ends_early};
 ghost use Rattle.load_calls.specs.Reading.{IsReady};
 
 use base_core::{ListOf, ObjList, Refusal};

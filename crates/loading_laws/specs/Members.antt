@@ -15,7 +15,7 @@ use Rattle.mapping_laws.specs.Hierarchies.{HasHierarchies}
 use Rattle.load_columns.specs.Placing.{foreign_numbers}
 use Rattle.collection_selects.specs.Collections.{batch_select, members_select}
 use Rattle.load_filling.specs.Rows.{row_key}
-use Rattle.load_laws.specs.Pairs.{owner_width}
+use Rattle.collection_selects.specs.Pairs.{owner_width}
 use Rattle.loading_laws.specs.Answers.Answers.{AreRowsOf}
 use Rattle.loading_laws.specs.Answers.Equal.{equals_key}
 

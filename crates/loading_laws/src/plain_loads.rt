@@ -6,7 +6,7 @@ ghost use Rattle.class_mapping.specs.Mapped.{Mapped};
 ghost use Rattle.main_selects.specs.MainSelect.{main_select};
 ghost use Rattle.load_calls.specs.Reading.{World};
 ghost use Rattle.load_queries.specs.Queries.{load_select};
-ghost use Rattle.load_joined.specs.Joined.{load_joined};
+ghost use Rattle.load_queries.specs.Joined.{load_joined};
 
 /// Without options the main select of a query is the query's own select.
 pub fn main_selects_stay()

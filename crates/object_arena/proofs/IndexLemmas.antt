@@ -13,7 +13,7 @@ use Rattle.base_core.specs.declared.ids.ClassId.{ClassId}
 use Rattle.base_core.specs.declared.value.Value.{Value}
 use Rattle.base_core.specs.Order.{values_cmp}
 use Rattle.base_core.specs.declared.refusal.Refusal.{Refusal}
-use Rattle.identity_maps.specs.Entries.{IsPut, IsSame, Keyed, entry_of, is_entry}
+use Rattle.object_arena.specs.Entries.{IsPut, IsSame, Keyed, entry_of, is_entry}
 use Rattle.object_arena.specs.declared.object.State.{State}
 use Rattle.object_arena.specs.declared.object.State.TheVariants.{Transient, Pending, Persistent, Deleted, Detached}
 use Rattle.object_arena.specs.declared.object.Object.{Object}

@@ -1,3 +1,5 @@
+pub mod ClassLemmas
+pub mod EntryLemmas
 pub mod FitLemmas
 pub mod GraphLemmas
 pub mod HolderLemmas
@@ -6,5 +8,4 @@ pub mod KeepLemmas
 pub mod LinkLemmas
 pub mod PartLemmas
 pub mod RowLemmas
-pub mod ClassLemmas
 pub mod TurnLemmas

@@ -3,7 +3,7 @@ use Rattle.std.specs.Prelude.{◌≡◌, ℕ, ◌+◌, Bool, true, ◌&&◌, nat
 use Rattle.base_core.specs.declared.ids.ObjId.{ObjId}
 use Rattle.base_core.specs.declared.ids.ClassId.{ClassId}
 use Rattle.base_core.specs.declared.value.Value.{Value}
-use Rattle.identity_maps.specs.Entries.{IsPut, IsSame, Keyed, entry_of}
+use Rattle.object_arena.specs.Entries.{IsPut, IsSame, Keyed, entry_of}
 use Rattle.object_arena.specs.declared.object.State.{State}
 use Rattle.object_arena.specs.declared.object.State.TheVariants.{Persistent}
 use Rattle.object_arena.specs.declared.object.Object.{Object}

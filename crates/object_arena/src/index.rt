@@ -1,12 +1,12 @@
 //! The persistent objects by their identities.
 
 ghost use Rattle.std.specs.Prelude.{◌≡◌, true, OnOk};
-ghost use Rattle.identity_maps.specs.Entries.{IsPut, entry_of};
+ghost use Rattle.object_arena.specs.Entries.{IsPut, entry_of};
 ghost use Rattle.object_arena.specs.Index.{IsMoved};
 
 use crate::State;
+use crate::identities::IdentityMap;
 use base_core::{ClassId, Copied, Key, ObjId, Refusal};
-use identity_maps::IdentityMap;
 use std::alloc::Global;
 
 /// The persistent objects by their identities, each a root class and a key.

@@ -1,4 +1,8 @@
-mod TouchSteps
-mod StateSteps
-mod PutSteps
+pub mod Differing
+pub mod Exact
 mod FreeSteps
+mod OneObject
+mod PutSteps
+pub mod Scopes
+mod StateSteps
+mod TouchSteps

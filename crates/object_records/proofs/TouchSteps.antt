@@ -13,9 +13,9 @@ use Rattle.object_arena.specs.Graph.{Graph, no_object, object_at}
 use Rattle.object_arena.specs.Identity.{id_of_place}
 use Rattle.savepoints.proofs.BackLemmas.{each_at}
 use Rattle.savepoints.specs.Scopes.{Framed, touch}
-use Rattle.touching.proofs.Exact.{object_itself}
-use Rattle.touching.specs.Same.{same_object}
-use Rattle.touching.specs.Touched.{differs, frames_touched_between, frames_with_touched, object_ids}
+use Rattle.object_records.proofs.Exact.{object_itself}
+use Rattle.object_records.specs.Same.{same_object}
+use Rattle.object_records.specs.Touched.{differs, frames_touched_between, frames_with_touched, object_ids}
 use Rattle.object_records.specs.Records.{record_at, with_records}
 use Rattle.object_records.specs.Way.{touched_if}
 

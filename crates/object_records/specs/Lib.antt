@@ -1,2 +1,4 @@
 pub mod Records
+pub mod Same
+pub mod Touched
 pub mod Way

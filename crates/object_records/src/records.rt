@@ -3,7 +3,7 @@
 ghost use Rattle.std.specs.Prelude.{◌≡◌, length, IfErr, OnErr, OnOk};
 ghost use Rattle.base_core.specs.declared.refusal.Refusal.TheVariants.{Memory};
 ghost use Rattle.object_arena.specs.Every.{classes_of, each_placed};
-ghost use Rattle.touching.specs.Touched.{frames_touched_between};
+ghost use Rattle.object_records.specs.Touched.{frames_touched_between};
 ghost use Rattle.object_records.specs.Records as spec;
 ghost use Rattle.object_records.specs.Way as way;
 

@@ -4,15 +4,15 @@ ghost use Rattle.std.specs.Prelude.{◌≡◌, length, not, IfErr, OnOk};
 ghost use Rattle.std.specs.Option.{unwrap_or};
 ghost use Rattle.base_core.specs.declared.refusal.Refusal.TheVariants.{Memory};
 ghost use Rattle.object_arena.specs.Graph.{IsObject, object_at};
-ghost use Rattle.touching.specs.Same.{same_object};
-ghost use Rattle.touching.specs.Touched.{frames_touched_between};
+ghost use Rattle.object_records.specs.Same.{same_object};
+ghost use Rattle.object_records.specs.Touched.{frames_touched_between};
 ghost use Rattle.object_records.specs.Records.{with_records};
 ghost use Rattle.object_records.specs.Way as way;
 
+use crate::same::same_object;
 use base_core::{ObjId, Refusal};
 use object_arena::{Arena, Object};
 use savepoints::Frames;
-use touching::same_object;
 
 #[tactic(auto, using(crate::proofs::TouchSteps::touch_steps))]
 /// Each object that is to have another record is touched in the innermost scope. The only refusal is `Memory`.
@@ -54,7 +54,7 @@ fn touch_for(
     }
 }
 
-#[tactic(auto, using(touching::proofs::Scopes::kept_scopes, crate::proofs::TouchSteps::one_touched))]
+#[tactic(auto, using(crate::proofs::Scopes::kept_scopes, crate::proofs::TouchSteps::one_touched))]
 /// An object that is to have another record is touched.
 fn touch_one(frames: &mut Frames, arena: &Arena, object: ObjId, new: &Object) -> Result<(), Refusal>
     requires { IsObject arena.now object }

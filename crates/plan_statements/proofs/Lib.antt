@@ -1,4 +1,5 @@
-pub mod KeyLemmas
-pub mod StaleLemmas
 pub mod Alike
+pub mod KeyLemmas
 pub mod OfRows
+pub mod StaleLemmas
+pub mod Tests

@@ -8,7 +8,7 @@ use Rattle.schema_core.specs.declared.changes.Planned.TheVariants.{Insert}
 use Rattle.schema_core.specs.declared.changes.RowChanges.{RowChanges}
 use Rattle.schema_core.specs.declared.statement.RowStmt.{RowStmt}
 use Rattle.schema_core.specs.Catalog.{Catalog, IsTable}
-use Rattle.fitting_statements.specs.Fitting.{fits_schema}
+use Rattle.plan_statements.specs.Fitting.{fits_schema}
 use Rattle.flush_order.specs.Cells.{table_at}
 use Rattle.flush_plan.specs.Flushing.{Keys, key_of_new, statement_sent}
 

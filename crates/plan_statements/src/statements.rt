@@ -12,9 +12,9 @@ ghost use Rattle.flush_order.specs.Cells.{cells_cleared, is_late, table_at};
 ghost use Rattle.flush_plan.specs.Flushing.{row_sent, statement_sent, table_of, value_of_cell};
 ghost use Rattle.plan_statements.specs.Known.{IsOfRows, IsPlaceOf, is_of_rows, is_place_of, is_sendable, keys_at, statement_if};
 
+use crate::fitting::fits_schema;
 use crate::keys::value_of_cell;
 use base_core::{ColumnNo, Copied, Key, ListOf, Refusal, RowList, RowValues, TableId, Value};
-use fitting_statements::fits_schema;
 use flush_order::is_late;
 use schema_core::{ColumnSpec, Planned, RowCell, RowChanges, RowStmt, Schema};
 use std::alloc::Global;

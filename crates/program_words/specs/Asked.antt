@@ -1,8 +1,8 @@
 -- What the words after the program's name ask for: `[--dialect D] [--echo] [--store FILE]`.
 use Rattle.std.specs.Prelude.{Bool, false, List, [], Option, None, Some, if◌then◌else◌, codes, find, option_and_then, option_map}
 use Rattle.std.specs.Str.{bytes_eq}
-use Rattle.programs.specs.declared.target.Target.{Target}
-use Rattle.programs.specs.declared.target.Target.TheVariants as targets
+use Rattle.keeper_core.specs.declared.target.Target.{Target}
+use Rattle.keeper_core.specs.declared.target.Target.TheVariants as targets
 use Rattle.script_types.specs.declared.command.Dialect.{Dialect}
 use Rattle.script_types.specs.declared.command.Dialect.TheVariants as dialects
 use Rattle.program_words.specs.declared.options.Options.{Options}

@@ -8,7 +8,7 @@ use crate::command::words_command;
 use base_core::Name;
 use clap::error::ErrorKind;
 use clap::{ArgMatches, Error};
-use programs::Target;
+use keeper_core::Target;
 use script_types::Dialect;
 use std::alloc::{AllocError, Global};
 

@@ -1,3 +1,4 @@
+mod CellSteps
 pub mod Gone
 mod HolderSteps
 mod LostSteps

@@ -6,8 +6,8 @@ ghost use Rattle.schema_core.specs.Judged.{some_written_dangles};
 ghost use Rattle.schema_core.specs.Tables.{collide, dangles, names_row, same_values, some_dangles};
 ghost use Rattle.table_rows.specs.Rows.{rows_present, tables_present};
 
+use crate::cells::{cells_of, has_null};
 use base_core::{Key, ListOf, Name, RowValues, Value};
-use row_cells::{cells_of, has_null};
 use schema_core::{ForeignSpec, Schema, TableSpec};
 use std::alloc::{AllocError, Global};
 use table_rows::{TableMap, TableRows};

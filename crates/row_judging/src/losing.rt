@@ -9,9 +9,9 @@ ghost use Rattle.table_index.specs.Indexed.{IsComplete, cells_at};
 ghost use Rattle.table_rows.specs.Rows.{rows_present, tables_present};
 ghost use Rattle.row_judging.specs.Lost.{has_there, is_gone, is_lost, key_lost, refers_to, some_lost, some_row_has};
 
+use crate::cells::{cells_of, has_null};
 use crate::judging::{names_row, same_values};
 use base_core::{Key, Name, TableId};
-use row_cells::{cells_of, has_null};
 use schema_core::{ForeignSpec, Schema, TableSpec};
 use std::alloc::{AllocError, Global};
 use std::collections::BTreeSet;

@@ -9,9 +9,9 @@ ghost use Rattle.table_index.specs.Indexed.{IsComplete, cells_at};
 ghost use Rattle.table_rows.specs.Rows.{rows_at, rows_present, tables_present};
 ghost use Rattle.row_judging.specs.Holders.{collides_there, is_held, some_key_collides};
 
+use crate::cells::{cells_of, has_null};
 use crate::judging::{collide, same_values, some_collides};
 use base_core::{Key, Name, RowValues, TableId, Value};
-use row_cells::{cells_of, has_null};
 use schema_core::TableSpec;
 use std::alloc::{AllocError, Global};
 use std::collections::BTreeSet;

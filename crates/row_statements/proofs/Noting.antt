@@ -3,7 +3,7 @@ use Rattle.std.proofs.Common.{◌≡◌, ℕ, ◌+◌, ◌<◌, List, ◌∷◌,
 use Rattle.std.proofs.lemmas.List.{length-append}
 use Rattle.base_core.specs.declared.value.Value.{Value}
 use Rattle.schema_core.specs.Tables.{Rows, row_under}
-use Rattle.programs.specs.Store.{Store}
+use Rattle.keeper_core.specs.Store.{Store}
 use Rattle.table_log.specs.Marks.{HasMore, IsNoted, Marked, Notes, NotesSome, last_cut, place_added, place_dropped, rows_there}
 use Rattle.table_log.specs.Scopes.{scope_started}
 use Rattle.table_log.proofs.Marking.{cut_back, kept_more, none_more}

@@ -22,7 +22,7 @@ use Rattle.schema_core.proofs.ApplySteps as steps
 use Rattle.table_log.specs.Marks.{Marked, Notes, NotesSome, last_cut, place_added, place_dropped}
 use Rattle.table_log.specs.Scopes.{scope_ended, scope_started, scope_undone, with_tables}
 use Rattle.table_rows.specs.Rows.{rows_at}
-use Rattle.programs.specs.Store.{Store}
+use Rattle.keeper_core.specs.Store.{Store}
 use Rattle.row_statements.specs.Held.{DidOrLeft, Wrote, put_all, put_from, rows_changed, stand, with_entry}
 use Rattle.row_statements.proofs.Noting.{absent_counted, kept_notes, left_marks, nothing_noted, none_counted, notes_behind, same_marked, some_more, some_noted}
 use Rattle.table_rows.proofs.Entries.{found_put, put_again}

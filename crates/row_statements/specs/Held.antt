@@ -11,7 +11,7 @@ use Rattle.schema_core.specs.Catalog.{Catalog, spec_of}
 use Rattle.schema_core.specs.Judged.{Judged, and_then, some_repeats, some_written_dangles}
 use Rattle.schema_core.specs.Tables.{Rows, Tables, row_under, with_row, with_rows}
 use Rattle.schema_core.specs.Told.{Told}
-use Rattle.programs.specs.Store.{Store}
+use Rattle.keeper_core.specs.Store.{Store}
 use Rattle.table_log.specs.Marks.{IsNoted, Marked, rows_there}
 use Rattle.table_rows.specs.Rows.{rows_at}
 

@@ -16,8 +16,7 @@ use crate::references::{
     index_foreigns, make_indexes, some_lost, some_repeats, some_written_dangles,
 };
 use base_core::{ColumnNo, Copied, Key, KeyList, ListOf, RowValues, TableId, Value};
-use row_cells::{has_null, key_of, lacks_given, lacks_value, with_cells, with_key};
-use row_judging::Before;
+use row_judging::{Before, has_null, key_of, lacks_given, lacks_value, with_cells, with_key};
 use schema_core::{RowStmt, Schema, Unwritten, Violation};
 use std::alloc::{AllocError, Global};
 use table_log::TableLog;

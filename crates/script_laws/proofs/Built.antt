@@ -27,9 +27,9 @@ use Rattle.class_mapping.proofs.MappingLemmas.{lined_more, orphans_more}
 use Rattle.class_mapping.proofs.PlainClassLemmas.{table_taken}
 use Rattle.class_mapping.proofs.RelatedPairs.{are_related}
 use Rattle.class_mapping.proofs.ValidLemmas.{valid_from}
-use Rattle.flush_laws.specs.Configured.{has_late_links}
-use Rattle.flush_laws.proofs.Configured.{well_mapped}
-use Rattle.flush_laws.specs.Graphs.{IsWellMapped}
+use Rattle.session_laws.specs.Configured.{has_late_links}
+use Rattle.session_laws.proofs.Configured.{well_mapped}
+use Rattle.session_laws.specs.Graphs.{IsWellMapped}
 use Rattle.shell_steps.specs.ShellState.{new_mapping}
 use Rattle.script_laws.specs.Scripts.{IsBuilt}
 

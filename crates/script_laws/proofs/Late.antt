@@ -7,8 +7,8 @@ use Rattle.std.proofs.lemmas.List.Folds.{list_all-append}
 use Rattle.base_core.specs.declared.refusal.Refusal.{Refusal}
 use Rattle.schema_core.specs.declared.table.TableSpec.{TableSpec}
 use Rattle.class_types.specs.declared.declared.ClassSpec.{ClassSpec}
-use Rattle.flush_laws.specs.Configured.{has_late_links, is_late_by_link}
-use Rattle.programs.specs.Programs.{Run, quiet}
+use Rattle.session_laws.specs.Configured.{has_late_links, is_late_by_link}
+use Rattle.keeper_core.specs.Programs.{Run, quiet}
 use Rattle.script_lex.specs.declared.kind.Kind.{Kind}
 use Rattle.script_lex.specs.declared.kind.Kind.TheVariants as k
 use Rattle.script_lex.specs.Lex.{is_ignored, tokens}

@@ -1,7 +1,9 @@
-pub mod Late
-pub mod Resolved
-pub mod Performed
-pub mod Told
-pub mod Built
-pub mod Shells
 pub mod Answers
+pub mod Built
+pub mod Late
+pub mod Performed
+pub mod Readings
+pub mod Resolved
+pub mod Shells
+pub mod Texts
+pub mod Told

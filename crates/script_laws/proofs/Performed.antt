@@ -16,13 +16,13 @@ use Rattle.base_core.specs.declared.value.Value.{Value}
 use Rattle.class_types.specs.Rules.{Rules}
 use Rattle.class_mapping.specs.Mapped.{IsAttribute, IsClass}
 use Rattle.keeper_core.specs.Calls as call
-use Rattle.legality_laws.specs.Legality.{Keeps}
-use Rattle.legality_laws.proofs.EachJoin.{keeps_each, keeps_give, keeps_then}
+use Rattle.table_laws.specs.Legality.{Keeps}
+use Rattle.table_laws.proofs.EachJoin.{keeps_each, keeps_give, keeps_then}
 use Rattle.object_arena.specs.Graph.{Graph, fresh_object, make, no_object, object_at, object_limit, place_of, with_fresh, with_object}
 use Rattle.object_arena.proofs.ClassLemmas.{classes_set}
-use Rattle.programs.specs.Programs.{Event, Run, ◌>>=◌, continue_from, each, give}
-use Rattle.programs.specs.Beside.{by_own, changes, on_own, on_store}
-use Rattle.programs.specs.Store.{Store}
+use Rattle.keeper_core.specs.Programs.{Event, Run, ◌>>=◌, continue_from, each, give}
+use Rattle.keeper_core.specs.Beside.{by_own, changes, on_own, on_store}
+use Rattle.keeper_core.specs.Store.{Store}
 use Rattle.schema_core.specs.DependencyOrder.{table_ids}
 use Rattle.session_scopes.specs.Making.{first_given_fault, made_unless as object_unless, object_made, object_with}
 use Rattle.session_scopes.specs.Scoping.{session_nested}
@@ -37,7 +37,7 @@ use Rattle.session_links.specs.Steps.{read_related}
 use Rattle.session_links.specs.declared.reading.Related.{Related}
 use Rattle.session_acts.specs.Savepoints.{begin_savepoint, enter_nested}
 use Rattle.session_tables.specs.declared.tables.TableChange.TheVariants.{Create, Drop}
-use Rattle.session_values.specs.Steps.{given_fault, made_unless, valid_made}
+use Rattle.session_objects.specs.ValueSteps.{given_fault, made_unless, valid_made}
 use Rattle.shell_parts.specs.declared.names.Bound.TheVariants.{Object as OneObject, Saved}
 use Rattle.command_resolve.specs.declared.answer.Answer.{Answer}
 use Rattle.command_resolve.specs.declared.answer.Answer.TheVariants as answer

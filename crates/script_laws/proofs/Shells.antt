@@ -5,16 +5,16 @@ use Rattle.base_core.specs.declared.refusal.Refusal.{Refusal}
 use Rattle.class_types.specs.Rules.{Rules}
 use Rattle.class_mapping.specs.Mapped.{Mapped}
 use Rattle.class_mapping.specs.Declaring.{configure, declare_class, declare_table}
-use Rattle.programs.specs.Programs.{Event, Run, ◌>>=◌, ask, become, becomes, change, continue_from, each, give, handle_refusal, quiet, recover_from}
-use Rattle.programs.specs.Beside.{Beside, by_own, on_own}
-use Rattle.programs.specs.Store.{Store}
+use Rattle.keeper_core.specs.Programs.{Event, Run, ◌>>=◌, ask, become, becomes, change, continue_from, each, give, handle_refusal, quiet, recover_from}
+use Rattle.keeper_core.specs.Beside.{Beside, by_own, on_own}
+use Rattle.keeper_core.specs.Store.{Store}
 use Rattle.keeper_core.specs.Keeping.{new_store}
-use Rattle.legality_laws.specs.Legality.{Keeps}
-use Rattle.legality_laws.proofs.EachJoin.{keeps_give, keeps_then}
+use Rattle.table_laws.specs.Legality.{Keeps}
+use Rattle.table_laws.proofs.EachJoin.{keeps_give, keeps_then}
 use Rattle.session_calls.proofs.Joining.{same_itself}
 use Rattle.session_calls.specs.Steps.{close}
-use Rattle.script_lines.specs.Cutting.{Cut, Ended, Line, TooLong, next_cut}
-use Rattle.script_lines.specs.Scripts.{lines_by, lines_from, lines_of}
+use Rattle.byte_streams.specs.Cutting.{Cut, Ended, Line, TooLong, next_cut}
+use Rattle.byte_streams.specs.Scripts.{lines_by, lines_from, lines_of}
 use Rattle.session_scopes.specs.SessionState.{SessionState, new_session}
 use Rattle.session_perform.specs.Performing.{program_of_resolved}
 use Rattle.script_types.specs.declared.command.Command.{Command}
@@ -45,7 +45,7 @@ use Rattle.shell_steps.specs.ShellState.{ShellState}
 use Rattle.shell_steps.specs.Step.{answer_to, close_session, close_session_at, close_stage, end_of_script, end_of_script_in, end_reply, at_desk, at_stage_of, compile, do_command, do_said, goes, in_session, line_step, perform, reply_to, run_at, tell, tell_answer, tell_here, tell_notes, turn}
 use Rattle.sqla_shell.specs.declared.ending.Ending.TheVariants.{Finished}
 use Rattle.sqla_shell.specs.Reference.{close_and_tell, do_and_reply, end_script, end_unless_too_long, script, start, writes}
-use Rattle.flush_laws.specs.Graphs.{IsWellMapped}
+use Rattle.session_laws.specs.Graphs.{IsWellMapped}
 use Rattle.session_laws.specs.Health.Calls.{Call}
 use Rattle.session_laws.specs.Whole.{CallsKeepWhole, IsHale}
 use Rattle.session_laws.proofs.Whole.Calls.{new_whole}

@@ -2,10 +2,10 @@
 use Rattle.std.proofs.Common.{◌≡◌, Bool, false, Option, None, Some, MatchBool, Result, Ok, Err, IfErr, sym, subst}
 use Rattle.base_core.specs.declared.refusal.Refusal.{Refusal}
 use Rattle.class_types.specs.Rules.{Rules}
-use Rattle.programs.specs.Beside.{moment_beside, told_beside}
-use Rattle.programs.specs.Moment.{AsTold, IsCutOff, IsRun, Moment, Outcome, Runs, Told, parts}
-use Rattle.programs.specs.Programs.{Log, Run, ends_early}
-use Rattle.programs.specs.Store.{Store}
+use Rattle.keeper_core.specs.Beside.{moment_beside, told_beside}
+use Rattle.keeper_core.specs.Moment.{AsTold, IsCutOff, IsRun, Moment, Outcome, Runs, Told, parts}
+use Rattle.keeper_core.specs.Programs.{Log, Run, ends_early}
+use Rattle.keeper_core.specs.Store.{Store}
 use Rattle.session_calls.specs.Parts.{World}
 use Rattle.session_laws.specs.Flushes.{world_of}
 use Rattle.session_scopes.specs.SessionState.{SessionState}

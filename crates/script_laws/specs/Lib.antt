@@ -1,3 +1,5 @@
-pub mod Lines
-pub mod Scripts
 pub mod Answers
+pub mod Lines
+pub mod Readings
+pub mod Scripts
+pub mod Texts

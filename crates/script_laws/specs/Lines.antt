@@ -1,8 +1,8 @@
 -- What the lines of scripts keep of a session, whatever they answer.
 use Rattle.std.specs.Prelude.{Option, None, Some}
 use Rattle.class_types.specs.Rules.{Rules}
-use Rattle.programs.specs.Moment.{Told}
-use Rattle.programs.specs.Store.{Store}
+use Rattle.keeper_core.specs.Moment.{Told}
+use Rattle.keeper_core.specs.Store.{Store}
 use Rattle.session_calls.specs.Parts.{World}
 use Rattle.session_laws.specs.Flushes.{world_of}
 use Rattle.session_scopes.specs.SessionState.{SessionState}

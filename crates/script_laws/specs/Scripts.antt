@@ -7,13 +7,13 @@ use Rattle.class_types.specs.Rules.{Rules}
 use Rattle.class_layouts.specs.Faults.{is_bad_cascade}
 use Rattle.class_mapping.specs.Lines.{AreLines}
 use Rattle.class_mapping.specs.Mapped.{Mapped}
-use Rattle.flush_laws.specs.Configured.{HasLateLinks, has_late_links}
+use Rattle.session_laws.specs.Configured.{HasLateLinks, has_late_links}
 use Rattle.keeper_core.specs.Keeping.{new_store}
-use Rattle.programs.specs.Beside.{Beside}
-use Rattle.programs.specs.Programs.{each}
-use Rattle.programs.specs.Store.{Store}
+use Rattle.keeper_core.specs.Beside.{Beside}
+use Rattle.keeper_core.specs.Programs.{each}
+use Rattle.keeper_core.specs.Store.{Store}
 use Rattle.command_names.specs.Terms.{Bindings}
-use Rattle.script_lines.specs.Scripts.{lines_of}
+use Rattle.byte_streams.specs.Scripts.{lines_of}
 use Rattle.shell_parts.specs.declared.block.Block.{Block}
 use Rattle.shell_parts.specs.declared.block.Declared.{Declared}
 use Rattle.shell_parts.specs.declared.block.Declared.TheVariants.{Table, Class}

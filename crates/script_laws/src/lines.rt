@@ -2,7 +2,7 @@
 
 ghost use Rattle.std.specs.Prelude.{◌≡◌, false, IfErr};
 ghost use Rattle.class_types.specs.Shown.{rules_of};
-ghost use Rattle.programs.specs.Programs.{ends_early};
+ghost use Rattle.keeper_core.specs.Programs.{ends_early};
 ghost use Rattle.session_perform.specs.Performing.{IsReady};
 ghost use Rattle.session_scopes.specs.SessionState.{IsInStep};
 ghost use Rattle.script_laws.specs.Lines.{IsHaleBeside, LinesKeepWhole};

@@ -4,7 +4,7 @@ ghost use Rattle.std.specs.Prelude.{◌≡◌, None, Some, map, string_bytes};
 ghost use Rattle.class_types.specs.Shown.{rules_of};
 ghost use Rattle.program_words.specs.Asked.{options_asked};
 ghost use Rattle.program_words.specs.declared.options.Options.{Options};
-ghost use Rattle.programs.specs.declared.target.Target.TheVariants as targets;
+ghost use Rattle.keeper_core.specs.declared.target.Target.TheVariants as targets;
 ghost use Rattle.sqla_shell.specs.Seen.{moment_seen};
 ghost use Rattle.sqla_shell.specs.Words.{print_options};
 ghost use Rattle.script_laws.specs.Answers.Runs.{EndsAsItsLinesAnswer};

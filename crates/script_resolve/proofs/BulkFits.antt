@@ -34,7 +34,7 @@ use Rattle.script_names.specs.Faults.{fault_if, faults_if_given}
 use Rattle.script_names.specs.Naming.{name_faults, named_expression, table_number, unknown_name}
 use Rattle.script_names.specs.Scopes.{Scope, find_column}
 use Rattle.statement_kinds.specs.Mismatches.{cell_mismatch, fault_of, mismatch_for, value_faults, values_faults}
-use Rattle.statement_judging.proofs.Placing.{cell_first}
+use Rattle.script_resolve.proofs.Placing.{cell_first}
 use Rattle.script_resolve.specs.Sayable.{is_sayable, is_sayable_if_given}
 use Rattle.script_resolve.proofs.Columns.{found_column, no_column}
 use Rattle.script_resolve.proofs.NamedFits.{IsScope, named_stands, outer_is}

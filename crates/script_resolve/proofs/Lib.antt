@@ -1,8 +1,10 @@
-pub mod Parts
-pub mod Columns
-pub mod NamedFits
-pub mod PlainSelect
-pub mod Causes
 pub mod BulkFits
+pub mod Causes
+pub mod Columns
 pub mod GivenOnce
+pub mod NamedFits
+pub mod Parts
+pub mod Placing
+pub mod PlainSelect
+pub mod Under
 pub mod Whole

@@ -32,8 +32,8 @@ use Rattle.script_names.specs.Naming.{faults_in, name_faults, named_expression, 
 use Rattle.script_names.specs.Scopes.{Scope, outer_scope}
 use Rattle.statement_names.specs.SelectNames.{faults_under, join_faults, joins_faults, named_joins, named_select, scope_written, select_name_faults, sources_written}
 use Rattle.statement_kinds.specs.Mismatches.{fault_of, join_mismatches, mismatch, mismatch_for, mismatches, mismatches_under}
-use Rattle.statement_judging.specs.Judging.{before_groups, has_names_apart, has_parts_in_place, joins_apart, place_faults, under_sources}
-use Rattle.statement_judging.proofs.Placing.{before_groups_lack, under_sources_hold}
+use Rattle.script_resolve.specs.Judging.{before_groups, has_names_apart, has_parts_in_place, joins_apart, place_faults, under_sources}
+use Rattle.script_resolve.proofs.Placing.{before_groups_lack, under_sources_hold}
 use Rattle.script_resolve.specs.Sayable.{is_sayable, is_sayable_if_given, is_sayable_select}
 use Rattle.script_resolve.specs.Selects.{select_faults}
 use Rattle.script_resolve.proofs.NamedFits.{IsScope, is_declared_table, named_stands, outer_is}

@@ -41,9 +41,9 @@ use Rattle.statement_names.specs.SelectNames.{faults_under, join_faults, joins_f
 use Rattle.plain_statements.specs.Tested.{names_alone}
 use Rattle.statement_kinds.specs.Mismatches.{bulk_mismatches, cell_mismatch, join_mismatches, mismatch, mismatch_for, mismatches, mismatches_under, value_faults, values_faults}
 use Rattle.statement_kinds.specs.NormalBulk.{normal_bulk}
-use Rattle.statement_judging.specs.Bulks.{bulk_place_faults, expressions_in, judged_bulk}
-use Rattle.statement_judging.specs.Judging.{has_names_apart, has_parts_in_place, judged_select, place_faults}
-use Rattle.statement_judging.proofs.Placing.{bulk_parts}
+use Rattle.script_resolve.specs.JudgedBulks.{bulk_place_faults, expressions_in, judged_bulk}
+use Rattle.script_resolve.specs.Judging.{has_names_apart, has_parts_in_place, judged_select, place_faults}
+use Rattle.script_resolve.proofs.Placing.{bulk_parts}
 use Rattle.script_resolve.specs.Bulks.{bulk_faults, gives_once, resolved_bulk}
 use Rattle.script_resolve.specs.Refusals.{CanRefuse}
 use Rattle.script_resolve.specs.Sayable.{is_sayable_bulk, is_sayable_if_given, is_sayable_select}

@@ -9,7 +9,7 @@ use Rattle.script_types.specs.declared.select.SynBulk.{SynBulk}
 use Rattle.statement_names.specs.BulkNames.{bulk_name_faults, named_bulk}
 use Rattle.script_names.specs.Faults.{unless}
 use Rattle.statement_kinds.specs.NormalBulk.{normal_bulk}
-use Rattle.statement_judging.specs.Bulks.{judged_bulk}
+use Rattle.script_resolve.specs.JudgedBulks.{judged_bulk}
 
 -- all faults of the statement, in the order in which they are told: its names, and then what is judged of it in numbers
 abbrev pub bulk_faults : Catalog → SynBulk → List Refusal

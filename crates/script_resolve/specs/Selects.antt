@@ -7,7 +7,7 @@ use Rattle.expr_types.specs.NormalSelect.{normal_select}
 use Rattle.script_types.specs.declared.select.SynSelect.{SynSelect}
 use Rattle.script_names.specs.Faults.{unless}
 use Rattle.statement_names.specs.SelectNames.{named_select, select_name_faults}
-use Rattle.statement_judging.specs.Judging.{judged_select}
+use Rattle.script_resolve.specs.Judging.{judged_select}
 
 -- all faults of the select, in the order in which they are told: its names, and then what is judged of it in numbers
 abbrev pub select_faults : Catalog → SynSelect → List Refusal

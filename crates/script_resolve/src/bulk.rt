@@ -10,12 +10,12 @@ ghost use Rattle.script_resolve.specs.Bulks as spec;
 ghost use Rattle.script_resolve.specs.Refusals.{CanRefuse};
 ghost use Rattle.script_resolve.specs.Sayable.{is_sayable_bulk};
 
+use crate::judging::judge_bulk;
 use base_core::Refusal;
 use expr_types::Bulk;
 use schema_core::Schema;
 use script_types::SynBulk;
 use sqlite_items::Boxed;
-use statement_judging::judge_bulk;
 use statement_names::name_bulk;
 use std::alloc::Global;
 

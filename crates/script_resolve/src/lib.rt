@@ -5,7 +5,10 @@
 //! let none stand, and two sources of one name.
 #![tactic(auto)]
 
+mod apart;
 mod bulk;
+mod grouping;
+mod judging;
 mod select;
 
 pub use bulk::resolve_bulk;

@@ -10,12 +10,12 @@ ghost use Rattle.script_resolve.specs.Refusals.{CanRefuse};
 ghost use Rattle.script_resolve.specs.Sayable.{is_sayable_select};
 ghost use Rattle.script_resolve.specs.Selects as spec;
 
+use crate::judging::judge_select;
 use base_core::Refusal;
 use expr_types::Select;
 use schema_core::Schema;
 use script_types::SynSelect;
 use sqlite_items::Boxed;
-use statement_judging::judge_select;
 use statement_names::name_select;
 use std::alloc::Global;
 

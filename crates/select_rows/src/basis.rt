@@ -2,15 +2,15 @@
 
 ghost use Rattle.std.specs.Prelude.{◌≡◌};
 ghost use Rattle.expr_eval.specs.Place.{place_of};
-ghost use Rattle.lent_tables.specs.Lent.{seen};
+ghost use Rattle.table_rows.specs.Lent.{seen};
 ghost use Rattle.select_sources.specs.Frames.{frame_at};
 ghost use Rattle.sql_semantics.specs.Rows as spec;
 
 use base_core::{RowList, Value};
 use expr_eval::Scope;
-use lent_tables::LentTables;
 use select_sources::scope_at;
 use sql_semantics::Basis;
+use table_rows::LentTables;
 
 /// The scope of a row or a group.
 pub(crate) fn scope_of<'x>(starts: &'x [u32], tables: LentTables<'x>, basis: &'x Basis) -> Scope<'x>

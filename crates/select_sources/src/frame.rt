@@ -2,13 +2,13 @@
 
 ghost use Rattle.std.specs.Prelude.{◌≡◌};
 ghost use Rattle.expr_eval.specs.Place.{place_of};
-ghost use Rattle.lent_tables.specs.Lent.{seen};
+ghost use Rattle.table_rows.specs.Lent.{seen};
 ghost use Rattle.select_sources.specs.Frames.{frame_at};
 ghost use Rattle.sql_semantics.specs.Rows as spec;
 
 use base_core::Value;
 use expr_eval::Scope;
-use lent_tables::LentTables;
+use table_rows::LentTables;
 
 /// The sources in scope: the place in a row at which each begins, and the tables.
 #[derive(Clone, Copy)]

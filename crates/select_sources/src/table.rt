@@ -2,14 +2,14 @@
 
 ghost use Rattle.std.specs.Prelude.{◌≡◌, ◌∷◌, ◌++◌, map, Ok, OnOk, IfOk};
 ghost use Rattle.base_core.specs.Answers.{Gives};
-ghost use Rattle.lent_tables.specs.Lent.{seen};
+ghost use Rattle.table_rows.specs.Lent.{seen};
 ghost use Rattle.sql_semantics.specs.Rows as spec;
 
 use crate::survey::{named, named_all};
 use base_core::{ListOf, Name, Refusal, TableId};
 use expr_types::{Expr, Joined, Select};
-use lent_tables::LentTables;
 use std::alloc::{AllocError, Global};
+use table_rows::LentTables;
 
 /// The first table of the select's text that was not created is refused.
 pub fn all_created(alloc: Global, tables: LentTables<'_>, select: &Select) -> Result<(), Refusal>

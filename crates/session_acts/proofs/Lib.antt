@@ -1,3 +1,8 @@
+pub mod ActLemmas
+mod Guarding
+mod Outcomes
+mod Planned
+mod Ready
 pub mod Savepoints
-pub mod Flushing
+mod Steps
 pub mod Unwritten

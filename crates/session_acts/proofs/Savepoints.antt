@@ -6,12 +6,12 @@ use Rattle.base_core.specs.declared.refusal.Refusal.{Refusal}
 use Rattle.base_core.specs.declared.refusal.LimitKind.TheVariants.{Savepoints}
 use Rattle.base_core.specs.declared.refusal.Refusal.TheVariants.{LimitReached, Memory, PendingRollbackError, ResourceClosedError}
 use Rattle.keeper_core.specs.Calls as call
-use Rattle.programs.specs.Store.{Store}
-use Rattle.programs.specs.Programs.{Run, ◌>>=◌, give}
-use Rattle.programs.specs.Moment.{Moment, Reaches, Runs}
-use Rattle.programs.specs.Beside.{by_own, changes}
-use Rattle.programs.proofs.Lifting.{chosen, ends, lost}
-use Rattle.programs.proofs.Sequence.{done, reaches_end, reaches_more, then_err, then_ok}
+use Rattle.keeper_core.specs.Store.{Store}
+use Rattle.keeper_core.specs.Programs.{Run, ◌>>=◌, give}
+use Rattle.keeper_core.specs.Moment.{Moment, Reaches, Runs}
+use Rattle.keeper_core.specs.Beside.{by_own, changes}
+use Rattle.keeper_core.proofs.Lifting.{chosen, ends, lost}
+use Rattle.keeper_core.proofs.Sequence.{done, reaches_end, reaches_more, then_err, then_ok}
 use Rattle.savepoints.specs.Scopes.{scope_limit}
 use Rattle.session_scopes.specs.Handles.{place_of_handle}
 use Rattle.session_scopes.specs.Scoping.{session_committed, session_nested, session_released}

@@ -7,17 +7,17 @@ use Rattle.schema_core.specs.declared.changes.Planned.{Planned}
 use Rattle.schema_core.specs.declared.changes.RowChanges.{RowChanges}
 use Rattle.schema_core.specs.Catalog.{Catalog}
 use Rattle.flush_plan.specs.Planning.{plan}
-use Rattle.programs.specs.declared.sent.Sent.{Sent}
-use Rattle.programs.specs.Store.{Store}
-use Rattle.programs.specs.Programs.{ends_early}
-use Rattle.programs.specs.Moment.{Moment}
-use Rattle.plan_run.specs.Run.{IsCause}
+use Rattle.keeper_core.specs.declared.sent.Sent.{Sent}
+use Rattle.keeper_core.specs.Store.{Store}
+use Rattle.keeper_core.specs.Programs.{ends_early}
+use Rattle.keeper_core.specs.Moment.{Moment}
+use Rattle.session_statements.specs.Run.{IsCause}
 use Rattle.savepoints.specs.declared.scope.Scope.{Scope}
 use Rattle.session_parts.specs.Depths.{has_scope}
 use Rattle.session_scopes.specs.SessionState.{AreAlikeButNotes, SessionState}
 use Rattle.session_calls.specs.Refusals.{Early, entered}
 use Rattle.session_statements.specs.Refusals.{IsRefusedByKeeper}
-use Rattle.session_flush.specs.Outcome.{IsCauseUnder, IsFlushCause, IsFlushed, IsGivenUp, changes_of}
+use Rattle.session_acts.specs.Outcome.{IsCauseUnder, IsFlushCause, IsFlushed, IsGivenUp, changes_of}
 use Rattle.session_acts.specs.Refusals.{Asked, GivenUp, IsRefusedFlushing, IsRefusedSending, IsUnwritten, Orphaned, Unsent, Unwritten}
 use Rattle.session_acts.specs.Steps.{orphan_fault}
 

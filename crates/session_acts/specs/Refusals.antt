@@ -1,12 +1,12 @@
 -- Why a call that flushes is refused, and what that leaves of the session, whatever the keeper tells.
 use Rattle.std.specs.Prelude.{◌≡◌, Option, Some}
 use Rattle.base_core.specs.declared.refusal.Refusal.{Refusal}
-use Rattle.programs.specs.declared.sent.Sent.{Sent}
-use Rattle.programs.specs.Moment.{Moment}
+use Rattle.keeper_core.specs.declared.sent.Sent.{Sent}
+use Rattle.keeper_core.specs.Moment.{Moment}
 use Rattle.session_scopes.specs.SessionState.{AreAlikeButNotes, SessionState}
 use Rattle.session_calls.specs.Refusals.{IsRefused, entered}
 use Rattle.session_statements.specs.Refusals.{IsRefusedByKeeper}
-use Rattle.session_flush.specs.Outcome.{IsFlushCause, IsFlushed, IsGivenUp}
+use Rattle.session_acts.specs.Outcome.{IsFlushCause, IsFlushed, IsGivenUp}
 use Rattle.session_acts.specs.Steps.{orphan_fault}
 
 -- The session was not written: an orphan waits, and nothing has happened; or the flush was refused for its cause, and the

@@ -3,8 +3,8 @@ use Rattle.std.specs.Prelude.{ℕ, ◌+◌, zero, suc, not, length, nat_lt, Opti
 use Rattle.base_core.specs.declared.refusal.LimitKind.TheVariants.{Savepoints}
 use Rattle.base_core.specs.declared.refusal.Refusal.{Refusal}
 use Rattle.base_core.specs.declared.refusal.Refusal.TheVariants.{LimitReached, ResourceClosedError}
-use Rattle.programs.specs.Programs.{Run, ◌>>=◌, give}
-use Rattle.programs.specs.Beside.{by_own, changes, on_store}
+use Rattle.keeper_core.specs.Programs.{Run, ◌>>=◌, give}
+use Rattle.keeper_core.specs.Beside.{by_own, changes, on_store}
 use Rattle.keeper_core.specs.Calls as call
 use Rattle.savepoints.specs.Scopes.{scope_limit}
 use Rattle.session_scopes.specs.Handles.{place_of_handle}

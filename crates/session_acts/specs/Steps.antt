@@ -10,11 +10,11 @@ use Rattle.schema_core.specs.Catalog.{Catalog}
 use Rattle.expr_types.specs.declared.select.Bulk.{Bulk}
 use Rattle.expr_types.specs.declared.select.Select.{Select}
 use Rattle.sql_semantics.specs.Plain.{IsPlainBulk}
-use Rattle.programs.specs.Programs.{Run, ◌>>=◌}
+use Rattle.keeper_core.specs.Programs.{Run, ◌>>=◌}
 use Rattle.session_scopes.specs.SessionState.{SessionState}
 use Rattle.session_calls.specs.Parts.{World, checked, fault_if}
 use Rattle.session_calls.specs.Steps.{enter}
-use Rattle.session_flush.specs.Flush.{flush}
+use Rattle.session_acts.specs.Flush.{flush}
 use Rattle.session_acts.specs.Savepoints.{begin_savepoint, check_handle, commit_whole, enter_nested, release_handle}
 use Rattle.session_statements.specs.Steps as statements
 

@@ -1,7 +1,7 @@
 //! The ends of the savepoint of a handle and of the whole transaction.
 
 ghost use Rattle.std.specs.Prelude.{◌≡◌, ◌<◌, [], length, false, IfErr, OnOk, true};
-ghost use Rattle.programs.specs.Programs.{ends_early};
+ghost use Rattle.keeper_core.specs.Programs.{ends_early};
 ghost use Rattle.session_scopes.specs.SessionState.{IsInStep};
 ghost use Rattle.session_calls.specs.Calling.{IsSessionCall};
 ghost use Rattle.session_acts.specs.Savepoints as steps;

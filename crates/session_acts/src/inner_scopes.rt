@@ -1,7 +1,7 @@
 //! Savepoints begin and end, and the transaction is committed.
 
 ghost use Rattle.std.specs.Prelude.{◌≡◌, ◌<◌, ◌+◌, [], length, false, true, IfErr, IfOk, OnOk};
-ghost use Rattle.programs.specs.Programs.{ends_early};
+ghost use Rattle.keeper_core.specs.Programs.{ends_early};
 ghost use Rattle.savepoints.specs.Scopes.{scope_limit};
 ghost use Rattle.session_scopes.specs.SessionState.{IsInStep};
 ghost use Rattle.session_calls.specs.Calling.{IsSessionCall};

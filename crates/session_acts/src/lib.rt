@@ -1,18 +1,23 @@
-//! The session's calls that flush, over any keeper: what is asked, the flush, and the act behind it, savepoints and the commit of the
-//! transaction among these.
+//! The flush of a session over any keeper: what is pending, changed and marked is written, or the innermost scope is given up; and the
+//! session's calls that flush: what is asked, the flush, and the act behind it, savepoints and the commit of the transaction among
+//! these.
 #![tactic(auto)]
 
 mod asking;
 mod ends;
+mod flushing;
 mod inner_scopes;
 mod nesting;
+mod preparing;
 mod statements;
 mod store;
 mod transaction;
 mod whole;
+mod writing;
 
 pub use asking::{check_handle, enter_nested};
 pub use ends::{commit_whole, release_handle};
+pub use flushing::flush;
 pub use inner_scopes::{begin_savepoint, commit_transaction, release_many};
 pub use nesting::{begin_nested, commit_handle};
 pub use statements::{bulk, rows};

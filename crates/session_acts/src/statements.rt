@@ -2,7 +2,7 @@
 
 ghost use Rattle.std.specs.Prelude.{None, IfErr, IfOk};
 ghost use Rattle.keeper_core.specs.Keeping.{RefusesBulk, RefusesSelect};
-ghost use Rattle.programs.specs.declared.sent.Sent.TheVariants as sent;
+ghost use Rattle.keeper_core.specs.declared.sent.Sent.TheVariants as sent;
 ghost use Rattle.sql_semantics.specs.Plain.{IsPlainSelect};
 ghost use Rattle.sql_semantics.specs.Shapes.{AreWide};
 ghost use Rattle.session_scopes.specs.SessionState.{IsInStep};

@@ -5,7 +5,7 @@ ghost use Rattle.session_scopes.specs.SessionState.{IsInStep};
 ghost use Rattle.session_calls.specs.Calling.{IsSessionCall};
 ghost use Rattle.session_calls.specs.Refusals.{entered};
 ghost use Rattle.session_calls.specs.Steps.{pending_fault};
-ghost use Rattle.session_flush.specs.Outcome.{IsFlushed};
+ghost use Rattle.session_acts.specs.Outcome.{IsFlushed};
 ghost use Rattle.session_acts.specs.Refusals.{IsRefusedFlushing};
 ghost use Rattle.session_acts.specs.Steps as steps;
 

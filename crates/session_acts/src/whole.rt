@@ -4,14 +4,14 @@ ghost use Rattle.std.specs.Prelude.{◌≡◌, ◌<◌, false, length, IfErr, On
 ghost use Rattle.std.specs.List.{list_any};
 ghost use Rattle.session_scopes.specs.SessionState.{IsInStep};
 ghost use Rattle.session_calls.specs.Calling.{IsSessionCall};
-ghost use Rattle.session_flush.specs.Outcome.{IsFlushed};
+ghost use Rattle.session_acts.specs.Outcome.{IsFlushed};
 ghost use Rattle.session_acts.specs.Refusals.{IsUnwritten};
 ghost use Rattle.session_acts.specs.Steps as steps;
 
+use crate::flushing::flush;
 use base_core::{ObjId, Refusal};
 use keeper_core::Keeper;
 use object_arena::{Object, State};
-use session_flush::flush;
 use session_scopes::Session;
 
 /// Whether an object is to be written or persistent, and its parent has left it.

@@ -11,11 +11,11 @@ use Rattle.class_mapping.specs.Mapped.{IsAttribute, Mapped, attribute_of}
 use Rattle.keeper_core.specs.Calls as call
 use Rattle.object_arena.specs.Every.{classes_of}
 use Rattle.object_arena.specs.Graph.{IsObject, object_at, value_fault}
-use Rattle.programs.specs.Alone.{IsOwn}
-use Rattle.programs.specs.Store.{Store}
-use Rattle.programs.specs.Programs.{◌>>=◌, ends_early, give}
-use Rattle.programs.specs.Moment.{Moment}
-use Rattle.programs.specs.Beside.{by_own, changes, on_own}
+use Rattle.keeper_core.specs.Alone.{IsOwn}
+use Rattle.keeper_core.specs.Store.{Store}
+use Rattle.keeper_core.specs.Programs.{◌>>=◌, ends_early, give}
+use Rattle.keeper_core.specs.Moment.{Moment}
+use Rattle.keeper_core.specs.Beside.{by_own, changes, on_own}
 use Rattle.savepoints.specs.declared.scope.Scope.{Scope}
 use Rattle.savepoints.specs.Scopes.{begun_at}
 use Rattle.schema_core.specs.Refusals.{kind_fault}

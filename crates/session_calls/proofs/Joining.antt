@@ -2,13 +2,13 @@
 use Rattle.std.proofs.Common.{◌≡◌, ℕ, true, false, length, Option, None, Some, Result, Ok, Err, IfErr, IsErrAnd, OnOk, refl, sym, ap, ◌∙◌, subst, arith}
 use Rattle.base_core.specs.declared.refusal.Refusal.{Refusal}
 use Rattle.base_core.specs.declared.refusal.Refusal.TheVariants.{Memory}
-use Rattle.programs.specs.Alone.{IsOwn, IsQuiet}
-use Rattle.programs.specs.Store.{Store}
-use Rattle.programs.specs.Programs.{Run, ◌>>=◌, ends_early, give, refuse}
-use Rattle.programs.specs.Moment.{Moment}
-use Rattle.programs.specs.Beside.{by_own, changes, on_own, on_store}
-use Rattle.programs.proofs.Lifting.{chosen, ends, quietly}
-use Rattle.programs.proofs.Sequence.{done, refused, then_err, then_ok}
+use Rattle.keeper_core.specs.Alone.{IsOwn, IsQuiet}
+use Rattle.keeper_core.specs.Store.{Store}
+use Rattle.keeper_core.specs.Programs.{Run, ◌>>=◌, ends_early, give, refuse}
+use Rattle.keeper_core.specs.Moment.{Moment}
+use Rattle.keeper_core.specs.Beside.{by_own, changes, on_own, on_store}
+use Rattle.keeper_core.proofs.Lifting.{chosen, ends, quietly}
+use Rattle.keeper_core.proofs.Sequence.{done, refused, then_err, then_ok}
 use Rattle.session_parts.specs.Depths.{HasDepth, StaysAt}
 use Rattle.session_scopes.specs.SessionState.{AreAlikeButNotes, IsInStep, SameObjects, SessionState, with_notes}
 use Rattle.session_calls.specs.Calling.{IsNotedCall, IsSessionCall}

@@ -3,12 +3,12 @@ use Rattle.std.proofs.Common.{◌≡◌, ℕ, Bool, true, false, cond, List, [],
 use Rattle.base_core.specs.declared.refusal.Refusal.{Refusal}
 use Rattle.base_core.specs.declared.refusal.Refusal.TheVariants.{Memory}
 use Rattle.schema_core.specs.Tables.{Tables}
-use Rattle.programs.specs.declared.sent.Sent.{Sent}
-use Rattle.programs.specs.Store.{Store}
-use Rattle.programs.specs.Programs.{Event, Run, Sends, ends_early}
-use Rattle.programs.specs.Moment.{AsTold, Moment, Ran, Runs, Told, parts}
-use Rattle.programs.specs.Beside.{IsNotedAs, Noted, moment_beside, on_store, told_beside}
-use Rattle.programs.proofs.Lifting.{on_keeper_noted, spoiled}
+use Rattle.keeper_core.specs.declared.sent.Sent.{Sent}
+use Rattle.keeper_core.specs.Store.{Store}
+use Rattle.keeper_core.specs.Programs.{Event, Run, Sends, ends_early}
+use Rattle.keeper_core.specs.Moment.{AsTold, Moment, Ran, Runs, Told, parts}
+use Rattle.keeper_core.specs.Beside.{IsNotedAs, Noted, moment_beside, on_store, told_beside}
+use Rattle.keeper_core.proofs.Lifting.{on_keeper_noted, spoiled}
 use Rattle.keeper_core.specs.Keeping.{IsCall, IsCoherent, IsCoherentTold, IsStatement, depth_left}
 use Rattle.object_arena.specs.Every.{classes_of}
 use Rattle.session_parts.specs.Depths.{HasDepth, StaysAt}

@@ -7,11 +7,11 @@ use Rattle.base_core.specs.declared.refusal.Refusal.{Refusal}
 use Rattle.base_core.specs.declared.refusal.Refusal.TheVariants.{Memory, PendingRollbackError}
 use Rattle.base_core.specs.declared.value.Value.{Value}
 use Rattle.object_arena.specs.Graph.{Graph, object_at, with_object, with_value}
-use Rattle.programs.specs.Alone.{IsQuiet}
-use Rattle.programs.specs.Store.{Store}
-use Rattle.programs.specs.Programs.{Run, ends_early, quiet}
-use Rattle.programs.specs.Moment.{IsCalm, Moment, counters, parts}
-use Rattle.programs.specs.Beside.{moment_beside}
+use Rattle.keeper_core.specs.Alone.{IsQuiet}
+use Rattle.keeper_core.specs.Store.{Store}
+use Rattle.keeper_core.specs.Programs.{Run, ends_early, quiet}
+use Rattle.keeper_core.specs.Moment.{IsCalm, Moment, counters, parts}
+use Rattle.keeper_core.specs.Beside.{moment_beside}
 use Rattle.session_scopes.specs.Changes.{cell_read, changed_unless, deletion_marked, value_put}
 use Rattle.session_scopes.specs.Scoping.{session_begun}
 use Rattle.session_scopes.specs.SessionState.{AreAlikeButNotes, SessionState, in_transaction}

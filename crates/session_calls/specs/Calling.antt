@@ -1,10 +1,10 @@
 -- What every call of the session ensures: its program, and what it keeps.
 use Rattle.std.specs.Prelude.{◌≡◌, ℕ, true, Result, IfErr, OnOk}
 use Rattle.base_core.specs.declared.refusal.Refusal.{Refusal}
-use Rattle.programs.specs.Store.{Store}
-use Rattle.programs.specs.Programs.{Run, ends_early}
-use Rattle.programs.specs.Moment.{Moment, Runs}
-use Rattle.programs.specs.Beside.{moment_beside, on_store}
+use Rattle.keeper_core.specs.Store.{Store}
+use Rattle.keeper_core.specs.Programs.{Run, ends_early}
+use Rattle.keeper_core.specs.Moment.{Moment, Runs}
+use Rattle.keeper_core.specs.Beside.{moment_beside, on_store}
 use Rattle.session_parts.specs.Depths.{HasDepth}
 use Rattle.session_scopes.specs.SessionState.{AreAlikeButNotes, IsKept, SessionState, with_notes}
 use Rattle.session_calls.specs.Parts.{World}

@@ -1,9 +1,9 @@
 -- Parts of the session's calls: what is checked before anything is sent, and the calls of the store that end scopes.
 use Rattle.std.specs.Prelude.{ℕ, ◌-◌, ◌==◌, Bool, true, false, Option, None, Some, if◌then◌else◌}
 use Rattle.base_core.specs.declared.refusal.Refusal.{Refusal}
-use Rattle.programs.specs.Store.{Store}
-use Rattle.programs.specs.Programs.{Run, ◌>>=◌, give, refuse}
-use Rattle.programs.specs.Beside.{Beside, by_own, changes, on_store}
+use Rattle.keeper_core.specs.Store.{Store}
+use Rattle.keeper_core.specs.Programs.{Run, ◌>>=◌, give, refuse}
+use Rattle.keeper_core.specs.Beside.{Beside, by_own, changes, on_store}
 use Rattle.keeper_core.specs.Calls as call
 use Rattle.session_scopes.specs.Scoping.{session_restored}
 use Rattle.session_scopes.specs.SessionState.{SessionState, with_notes}

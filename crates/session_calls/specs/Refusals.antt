@@ -5,7 +5,7 @@ use Rattle.base_core.specs.declared.ids.ObjId.{ObjId}
 use Rattle.base_core.specs.declared.refusal.Refusal.{Refusal}
 use Rattle.base_core.specs.declared.value.Value.{Value}
 use Rattle.object_arena.specs.Graph.{cell_at, either_fault, key_fault, object_at, value_fault}
-use Rattle.programs.specs.Programs.{ends_early}
+use Rattle.keeper_core.specs.Programs.{ends_early}
 use Rattle.session_scopes.specs.Changes.{delete_fault, read_of}
 use Rattle.session_scopes.specs.Scoping.{session_begun}
 use Rattle.session_scopes.specs.SessionState.{AreAlikeButNotes, SessionState, in_transaction}

@@ -5,8 +5,8 @@ use Rattle.base_core.specs.declared.ids.ObjId.{ObjId}
 use Rattle.base_core.specs.declared.value.Value.{Value}
 use Rattle.base_core.specs.declared.refusal.Refusal.{Refusal}
 use Rattle.base_core.specs.declared.refusal.Refusal.TheVariants.{PendingRollbackError, ResourceClosedError}
-use Rattle.programs.specs.Programs.{Run, ◌>>=◌, give, refuse}
-use Rattle.programs.specs.Beside.{by_own, changes, on_own, on_store}
+use Rattle.keeper_core.specs.Programs.{Run, ◌>>=◌, give, refuse}
+use Rattle.keeper_core.specs.Beside.{by_own, changes, on_own, on_store}
 use Rattle.keeper_core.specs.Calls as call
 use Rattle.object_arena.specs.Graph.{object_at, value_fault}
 use Rattle.session_scopes.specs.Changes.{cell_read, deletion_marked, value_put}

@@ -3,7 +3,7 @@
 ghost use Rattle.std.specs.Prelude.{◌≡◌, None, IfErr, IfSome};
 ghost use Rattle.class_mapping.specs.Mapped.{IsAttribute};
 ghost use Rattle.object_arena.specs.Graph.{IsObject, object_at, value_fault};
-ghost use Rattle.programs.specs.Alone.{IsOwn};
+ghost use Rattle.keeper_core.specs.Alone.{IsOwn};
 ghost use Rattle.session_scopes.specs.SessionState.{IsInStep};
 ghost use Rattle.session_calls.specs.Calling.{IsSessionCall};
 ghost use Rattle.session_calls.specs.Refusals.{IsRefused, kept_fault, mark_fault, read_fault, set_fault};

@@ -2,7 +2,7 @@
 
 ghost use Rattle.std.specs.Prelude.{◌≡◌, ◌<◌, ◌≤◌, ◌-◌, ◌==◌, ◌&&◌, [], None, Some, is_none, true, false, length, IfErr, OnOk};
 ghost use Rattle.base_core.specs.declared.refusal.Refusal.TheVariants.{ResourceClosedError};
-ghost use Rattle.programs.specs.Programs.{ends_early};
+ghost use Rattle.keeper_core.specs.Programs.{ends_early};
 ghost use Rattle.session_scopes.specs.Handles.{place_of_handle};
 ghost use Rattle.session_scopes.specs.Scoping.{session_begun};
 ghost use Rattle.session_scopes.specs.SessionState.{AreAlikeButNotes, IsInStep};

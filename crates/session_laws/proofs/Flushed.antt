@@ -46,7 +46,7 @@ use Rattle.row_project.specs.Warnings.{warnings}
 use Rattle.row_project.specs.Changes.{object_changes, rows_lost}
 use Rattle.row_partners.specs.Partners.{partners}
 use Rattle.row_switches.specs.Switch.{with_switches}
-use Rattle.touching.proofs.Exact.{value_itself}
+use Rattle.object_records.proofs.Exact.{value_itself}
 use Rattle.graph_flushed.specs.Flushed.{Written, deleted_object, graph_written, held_cell, held_or, kept_cell, kept_link, key_of, new_cell, new_object, new_value, object_flushed, object_in, prepared_links, staying_cell, staying_object, state_under, state_unless, value_come}
 use Rattle.graph_flushed.specs.Keys.{new_holder}
 use Rattle.graph_flushed.proofs.ObjectSteps.{flushed_at, flushed_long}

@@ -3,8 +3,8 @@ use Rattle.std.proofs.Common.{sym, ap, ◌∙◌}
 use Rattle.std.specs.Prelude.{Some}
 use Rattle.flush_plan.specs.Flushing.{Sofar}
 use Rattle.schema_core.specs.Tables.{Tables}
-use Rattle.flush_laws.specs.Graphs.{AcceptedFlushIsStated, WholeFlushIsStated}
-use Rattle.session_flush.specs.Flush.{prepared_of}
+use Rattle.session_laws.specs.Graphs.{AcceptedFlushIsStated, WholeFlushIsStated}
+use Rattle.session_acts.specs.Flush.{prepared_of}
 use Rattle.session_laws.specs.Flushes.{AnswersWhereAccepted, SendsItsPlan}
 use Rattle.session_laws.specs.Stating.{AnswersWhereStated, LeavesStatedRows}
 

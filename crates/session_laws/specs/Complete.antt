@@ -20,15 +20,15 @@ use Rattle.flush_order.specs.Orders.{delete_order, gone_rows, insert_order}
 use Rattle.flush_plan.specs.Flushing.{Sofar}
 use Rattle.flush_plan.specs.Stating.{all_placed, guess, row_at, stated_tables}
 use Rattle.object_rows.specs.Rows.{key_or_none}
-use Rattle.flush_laws.specs.Held.{placed_object}
-use Rattle.flush_laws.specs.Plans.Laws.{changes_to_write}
-use Rattle.flush_laws.specs.Plans.Premises.{IsClear}
-use Rattle.flush_laws.specs.Graphs.{IsWellMapped}
-use Rattle.legality_laws.specs.Legality.{IsAscendingStore}
+use Rattle.session_laws.specs.Held.{placed_object}
+use Rattle.session_laws.specs.Plans.Laws.{changes_to_write}
+use Rattle.session_laws.specs.Plans.Premises.{IsClear}
+use Rattle.session_laws.specs.Graphs.{IsWellMapped}
+use Rattle.table_laws.specs.Legality.{IsAscendingStore}
 use Rattle.row_project.specs.Changes.{project}
 use Rattle.savepoints.specs.Scopes.{scope_limit}
 use Rattle.session_calls.specs.Parts.{World}
-use Rattle.session_flush.specs.Flush.{flush, prepared_of}
+use Rattle.session_acts.specs.Flush.{flush, prepared_of}
 use Rattle.session_acts.specs.Steps.{begin_nested, commit, flush_now, orphan_fault}
 use Rattle.session_laws.specs.Sound.{EachObject, IsSound}
 use Rattle.session_laws.specs.Health.Health.{IsHealthy, IsWhole}

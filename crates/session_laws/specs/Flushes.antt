@@ -7,14 +7,14 @@ use Rattle.schema_core.specs.Catalog.{Catalog}
 use Rattle.object_arena.specs.Graph.{Graph, is_persistent, object_at}
 use Rattle.flush_plan.specs.Flushing.{Sofar, send, send_all}
 use Rattle.flush_plan.specs.Planning.{plan}
-use Rattle.programs.specs.Store.{Store}
-use Rattle.programs.specs.Moment.{Told}
-use Rattle.legality_laws.specs.Legality.{IsLegalStore}
+use Rattle.keeper_core.specs.Store.{Store}
+use Rattle.keeper_core.specs.Moment.{Told}
+use Rattle.table_laws.specs.Legality.{IsLegalStore}
 use Rattle.session_scopes.specs.SessionState.{SessionState}
 use Rattle.session_calls.specs.Parts.{World}
 use Rattle.plan_statements.specs.Known.{is_sendable}
-use Rattle.session_flush.specs.Flush.{flush}
-use Rattle.session_flush.specs.Outcome.{changes_of}
+use Rattle.session_acts.specs.Flush.{flush}
+use Rattle.session_acts.specs.Outcome.{changes_of}
 
 -- ---- over a keeper that tells
 

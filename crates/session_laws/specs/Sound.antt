@@ -15,8 +15,8 @@ use Rattle.object_arena.specs.Identity.{IsGraph, holds, is_identified}
 use Rattle.base_core.specs.declared.ids.AttrNo.{AttrNo}
 use Rattle.base_core.specs.declared.ids.ClassId.{ClassId}
 use Rattle.base_core.specs.declared.ids.ObjId.{ObjId}
-use Rattle.programs.specs.Beside.{Beside}
-use Rattle.programs.specs.Programs.{Run}
+use Rattle.keeper_core.specs.Beside.{Beside}
+use Rattle.keeper_core.specs.Programs.{Run}
 use Rattle.savepoints.specs.declared.scope.Scope.{Scope}
 use Rattle.savepoints.specs.declared.scope.Standing.{Standing}
 use Rattle.savepoints.specs.Scopes.{Framed, is_touched, standing_at, standing_of}

@@ -3,13 +3,13 @@ use Rattle.std.specs.Prelude.{◌≡◌, ◌<◌, true, false, length, Ok, Err}
 use Rattle.base_core.specs.declared.refusal.Refusal.{Refusal}
 use Rattle.object_arena.specs.declared.object.Object.{Object}
 use Rattle.object_arena.specs.Graph.{is_persistent}
-use Rattle.flush_laws.specs.Graphs.{IsWellMapped}
-use Rattle.flush_laws.specs.OwnRows.{ArePairsOnce}
+use Rattle.session_laws.specs.Graphs.{IsWellMapped}
+use Rattle.session_laws.specs.OwnRows.{ArePairsOnce}
 use Rattle.object_arena.specs.Fit.{IsFit}
-use Rattle.flush_laws.specs.Held.{IsWhollyKnown, KeepsItsKey}
-use Rattle.legality_laws.specs.Legality.{IsAscendingStore}
+use Rattle.session_laws.specs.Held.{IsWhollyKnown, KeepsItsKey}
+use Rattle.table_laws.specs.Legality.{IsAscendingStore}
 use Rattle.session_calls.specs.Parts.{World}
-use Rattle.session_flush.specs.Flush.{flush, prepared_of}
+use Rattle.session_acts.specs.Flush.{flush, prepared_of}
 use Rattle.session_laws.specs.Sound.{EachObject, IsSound, IsWritten}
 
 -- a flush in a sound session, whatever it is refused for, leaves a sound one

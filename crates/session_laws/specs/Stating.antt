@@ -6,12 +6,12 @@ use Rattle.flush_order.specs.Orders.{insert_order}
 use Rattle.flush_plan.specs.Flushing.{Sofar}
 use Rattle.flush_plan.specs.Planning.{plan}
 use Rattle.flush_plan.specs.Stating.{stated_tables}
-use Rattle.flush_laws.specs.Plans.Laws.{before, changes_to_write}
-use Rattle.flush_laws.specs.Plans.Premises.{IsSorted}
-use Rattle.flush_laws.specs.Graphs.{AreStated, HaveOwnRows, IsTold, IsWellMapped}
+use Rattle.session_laws.specs.Plans.Laws.{before, changes_to_write}
+use Rattle.session_laws.specs.Plans.Premises.{IsSorted}
+use Rattle.session_laws.specs.Graphs.{AreStated, HaveOwnRows, IsTold, IsWellMapped}
 use Rattle.session_calls.specs.Parts.{World}
-use Rattle.session_flush.specs.Flush.{flush, prepared_of}
-use Rattle.session_flush.specs.Outcome.{changes_of}
+use Rattle.session_acts.specs.Flush.{flush, prepared_of}
+use Rattle.session_acts.specs.Outcome.{changes_of}
 use Rattle.session_laws.specs.Flushes.{AreSendable}
 
 -- The mapping is as every configured one is and the objects have their own rows, in legal and ascending tables. The new rows have

@@ -7,7 +7,7 @@ use Rattle.class_types.specs.Rules.{Rules}
 use Rattle.class_mapping.specs.Mapped.{IsAttribute, IsClass, Mapped}
 use Rattle.object_arena.specs.Fit.{IsFit}
 use Rattle.object_arena.specs.Graph.{IsObject, object_at}
-use Rattle.flush_laws.specs.Graphs.{IsWellMapped}
+use Rattle.session_laws.specs.Graphs.{IsWellMapped}
 use Rattle.savepoints.specs.Scopes.{HasKeys}
 use Rattle.session_scopes.specs.SessionState.{SessionState, new_session}
 use Rattle.session_calls.specs.Parts.{World}

@@ -3,10 +3,11 @@
 
 ghost use Rattle.session_laws.specs.Complete.{BeginAnswersWhere, CommitAnswersWhere, CommitsLeaveStatedRows, FlushAnswersWhere, FlushesLeaveStatedRows, LinkedFlushesLeaveStatedRows, LinksMayBeWritten, MayBeWritten, SavepointsLeaveStatedRows};
 
+use crate::own_row_laws::objects_have_own_rows;
+use crate::sendable_laws::{changes_fit, fit_plans_are_sendable};
 use crate::{
     a_flush_leaves_the_stated_rows, a_flush_of_stated_tables_answers, a_flush_sends_its_plan,
 };
-use flush_laws::{changes_fit, fit_plans_are_sendable, objects_have_own_rows};
 
 /// In a healthy session, over every mapping and with objects that are to be deleted, in which no rollback is awaited and no orphan
 /// waits, a flush answers and leaves the tables that the objects state, whenever these are legal, their new rows have keys, no row

@@ -5,10 +5,10 @@
 ghost use Rattle.std.specs.Prelude.{◌≡◌, [], false, IfErr, IfSome, Result, Some};
 ghost use Rattle.base_core.specs.declared.refusal.Refusal.{Refusal};
 ghost use Rattle.class_mapping.specs.Mapped.{Mapped};
-ghost use Rattle.flush_laws.specs.Graphs.{IsWellMapped};
-ghost use Rattle.programs.specs.Moment.{Told};
-ghost use Rattle.programs.specs.Programs.{Run, ends_early};
-ghost use Rattle.programs.specs.Store.{Store};
+ghost use Rattle.session_laws.specs.Graphs.{IsWellMapped};
+ghost use Rattle.keeper_core.specs.Moment.{Told};
+ghost use Rattle.keeper_core.specs.Programs.{Run, ends_early};
+ghost use Rattle.keeper_core.specs.Store.{Store};
 ghost use Rattle.session_acts.specs.Steps as acts;
 ghost use Rattle.session_calls.specs.Calling.{IsSessionCall};
 ghost use Rattle.session_calls.specs.Parts.{World};

@@ -1,14 +1,23 @@
-//! Laws of sessions: those that are sound, their scopes, links and calls, their flush over a store that is told, and whole calls one
-//! after another, which keep a session healthy and whole, and whose flushes answer whenever what the objects state can be written.
-//! Each is the contract of a function that does nothing, or that names the laws on which it rests.
+//! Laws of what a flush writes and leaves: its plans, their prefixes, what the objects hold and what can be sent. Laws of sessions: those
+//! that are sound, their scopes, links and calls, their flush over a store that is told, and whole calls one after another, which keep
+//! a session healthy and whole, and whose flushes answer whenever what the objects state can be written. Each is the contract of a
+//! function that does nothing, that names the laws on which it rests, or, of configured mappings, of one that asks the mapping.
 #![tactic(auto)]
 
 mod complete_laws;
+mod configured_laws;
+mod graph_laws;
 mod healthy_laws;
+mod held_laws;
+mod legal_prefixes;
 mod link_call_laws;
 mod link_laws;
+mod order;
+mod own_row_laws;
+mod project_laws;
 mod scope_laws;
 mod second_flush_laws;
+mod sendable_laws;
 mod sound_calls;
 mod sound_flush_laws;
 mod sound_sessions;
@@ -16,21 +25,38 @@ mod stated_flush_laws;
 mod table_call_laws;
 mod told_flush_laws;
 mod whole_laws;
+mod worked;
 
 pub use complete_laws::{
     flushes_leave_the_stated_rows, stated_links_are_written, stated_objects_are_written,
 };
+pub use configured_laws::{is_well_mapped, plain_classes};
+pub use graph_laws::{
+    accepted_flushes_are_stated, changes_are_projected, flush_prefixes_are_legal,
+    foreign_keys_are_of_one_kind, tables_and_discriminators,
+};
 pub use healthy_laws::{
     a_new_session_is_healthy, calls_keep_health, flushing_calls_keep_health,
     one_object_stands_for_each_key, what_is_told_stays_healthy,
+};
+pub use held_laws::flushed_objects_hold;
+pub use legal_prefixes::{
+    accepted_plans_are_stated, inserts_are_legal, plans_are_legal, premises_are_met,
 };
 pub use link_call_laws::changing_links_keeps_sound;
 pub use link_laws::{
     append_changes_both_sides, calls_change_what_is_found, collections_repeat_no_member,
     links_alone_change, remove_changes_both_sides, set_changes_three_links,
 };
+pub use order::{numbers_are_by_place, order_or_cycle, runs_are_longest, runs_are_whole};
+pub use own_row_laws::{objects_have_own_rows, unlinked_pairs_are_once};
+pub use project_laws::{
+    changed_cells_are_in_order, gone_rows_are_whole, key_parts_are_foreign, late_keys_are_fit,
+    new_rows_are_whole, new_rows_have_keys, passed_keys_are_switched, switches_keep_rows_apart,
+};
 pub use scope_laws::{made_since_goes_back, restore_gives_the_start, touches_and_loads_only_grow};
 pub use second_flush_laws::{no_row_changes, no_row_is_new, no_statement_is_planned};
+pub use sendable_laws::{changes_fit, fit_plans_are_sendable};
 pub use sound_calls::{
     coming_in_keeps_sound, committing_keeps_sound, making_keeps_sound, savepoints_keep_sound,
     statements_keep_sound,
@@ -53,3 +79,4 @@ pub use whole_laws::{
     a_new_session_is_whole, calls_keep_objects_fitting, calls_keep_whole,
     sessions_have_one_object_for_each_key,
 };
+pub use worked::{worked_cycles, worked_old, worked_plans, worked_runs};

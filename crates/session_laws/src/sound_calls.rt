@@ -6,7 +6,7 @@ ghost use Rattle.base_core.specs.declared.ids.ClassId.{ClassId};
 ghost use Rattle.base_core.specs.declared.value.Value.{Value};
 ghost use Rattle.expr_types.specs.declared.select.Bulk.{Bulk};
 ghost use Rattle.expr_types.specs.declared.select.Select.{Select};
-ghost use Rattle.programs.specs.Beside.{on_own};
+ghost use Rattle.keeper_core.specs.Beside.{on_own};
 ghost use Rattle.session_scopes.specs.Making.{object_made};
 ghost use Rattle.session_acts.specs.Savepoints as savepoints;
 ghost use Rattle.session_laws.specs.Sound.{IsCommittable, IsSendable, IsWell, IsWritten, KeepsSound, KeepsSoundWhere};

@@ -4,7 +4,8 @@
 ghost use Rattle.session_laws.specs.SoundFlushes.{AddingFlushKeepsSound, RefusedFlushIsSound, ToldFlushIsSound, ToldFlushKeepsSound};
 
 use crate::a_flush_leaves_legal_tables;
-use flush_laws::{flushed_objects_hold, objects_have_own_rows};
+use crate::held_laws::flushed_objects_hold;
+use crate::own_row_laws::objects_have_own_rows;
 
 /// Whatever a flush is refused for, in the transaction or in a savepoint, and whatever it wrote before: the session is sound
 /// then. The tables are those of the start of the scope, and each object stands where it stood then.

@@ -3,8 +3,8 @@
 
 ghost use Rattle.session_laws.specs.Stating.{AnswersWhereStated, LeavesStatedRows};
 
+use crate::graph_laws::{accepted_flushes_are_stated, flush_prefixes_are_legal};
 use crate::{a_flush_sends_its_plan, an_accepted_flush_answers};
-use flush_laws::{accepted_flushes_are_stated, flush_prefixes_are_legal};
 
 /// A flush that answers leaves exactly the rows that the objects state: the old ones, of which the deleted are gone, with the changed
 /// cells written and the new rows put in. A row of which no cell is written stays as it was.

@@ -1,7 +1,7 @@
 //! The making and the dropping of tables keep a session sound. Each law is the contract of a function that does nothing, so there is no
 //! body that could be turned into a wrong one.
 
-ghost use Rattle.legality_laws.specs.Legality.{IsAscendingStore};
+ghost use Rattle.table_laws.specs.Legality.{IsAscendingStore};
 ghost use Rattle.session_laws.specs.Sound.{KeepsSoundWhere};
 ghost use Rattle.session_tables.specs.Steps.{change_all};
 ghost use Rattle.session_tables.specs.declared.tables.TableChange.TheVariants.{Create, Drop};

@@ -4,10 +4,10 @@
 #![tactic(auto, using(crate::proofs::Flushes::LawProofs::flush_laws))]
 
 ghost use Rattle.std.specs.Prelude.{◌≡◌, Ok, Some};
-ghost use Rattle.programs.specs.Moment.{Told};
-ghost use Rattle.programs.specs.Store.{Store};
+ghost use Rattle.keeper_core.specs.Moment.{Told};
+ghost use Rattle.keeper_core.specs.Store.{Store};
 ghost use Rattle.session_calls.specs.Calling.{IsSessionCall};
-ghost use Rattle.session_flush.specs.Flush.{flush};
+ghost use Rattle.session_acts.specs.Flush.{flush};
 ghost use Rattle.session_laws.specs.Flushes as law;
 ghost use Rattle.session_scopes.specs.SessionState.{SessionState};
 

@@ -3,7 +3,7 @@
 //! is no body that could be turned into a wrong one.
 
 ghost use Rattle.class_mapping.specs.Mapped.{Mapped};
-ghost use Rattle.flush_laws.specs.Graphs.{IsWellMapped};
+ghost use Rattle.session_laws.specs.Graphs.{IsWellMapped};
 ghost use Rattle.session_laws.specs.Whole.{CallsKeepFit, CallsKeepWhole, IsHale, SessionsHaveOneForEachKey, new_world};
 
 use crate::{a_flush_keeps_a_told_session_sound, an_answered_flush_of_a_told_session_leaves_sound};

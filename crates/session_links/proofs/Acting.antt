@@ -12,10 +12,10 @@ use Rattle.class_mapping.specs.Mapped.{Mapped, relations_of}
 use Rattle.object_arena.specs.Fit.{relation_of}
 use Rattle.object_arena.specs.Graph.{Graph, IsObject, either_fault, object_at}
 use Rattle.object_arena.specs.Identity.{IsGraph}
-use Rattle.programs.specs.Alone.{IsOwn, IsQuiet}
-use Rattle.programs.specs.Store.{Store}
-use Rattle.programs.specs.Moment.{Moment}
-use Rattle.programs.specs.Beside.{changes, on_own}
+use Rattle.keeper_core.specs.Alone.{IsOwn, IsQuiet}
+use Rattle.keeper_core.specs.Store.{Store}
+use Rattle.keeper_core.specs.Moment.{Moment}
+use Rattle.keeper_core.specs.Beside.{changes, on_own}
 use Rattle.relations.specs.declared.calls.LinkCall.{LinkCall}
 use Rattle.relations.specs.declared.calls.LinkCall.TheVariants.{Set, Append, Remove}
 use Rattle.relations.specs.declared.change.Change.{Change}

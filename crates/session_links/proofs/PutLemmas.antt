@@ -16,8 +16,8 @@ use Rattle.session_objects.specs.Taking.{is_inside}
 use Rattle.session_objects.proofs.JoiningLemmas.{StandAlike}
 use Rattle.session_objects.proofs.OutsiderLemmas.{StayInside}
 use Rattle.session_scopes.specs.SessionState.{SameObjects, SessionState}
-use Rattle.touching.specs.Same.{same_bool, same_object}
-use Rattle.touching.proofs.Differing.{differs_as}
+use Rattle.object_records.specs.Same.{same_bool, same_object}
+use Rattle.object_records.proofs.Differing.{differs_as}
 use Rattle.session_links.specs.Relinked.{IsRelinked}
 
 -- ---- whether an object differs by its orphan mark

@@ -16,8 +16,8 @@ use Rattle.object_arena.specs.declared.object.Object.{Object}
 use Rattle.object_arena.specs.Fit.{IsFit, held_fit, is_of_root, links_fit, no_relation}
 use Rattle.object_arena.specs.Graph.{Graph, IsObject}
 use Rattle.relations.proofs.EndLemmas.{led_made, link_found, of_root_made, roots_long}
-use Rattle.programs.specs.Alone.{IsQuiet}
-use Rattle.programs.specs.Programs.{Run}
+use Rattle.keeper_core.specs.Alone.{IsQuiet}
+use Rattle.keeper_core.specs.Programs.{Run}
 use Rattle.session_scopes.specs.SessionState.{AreAlikeButNotes, SessionState}
 use Rattle.session_calls.specs.Refusals.{Early, IsRefused, entered, fault_in}
 use Rattle.session_calls.specs.Steps.{pending_fault}

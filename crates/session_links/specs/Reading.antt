@@ -12,7 +12,7 @@ use Rattle.object_arena.specs.declared.object.State.TheVariants.{Persistent}
 use Rattle.object_arena.specs.Fit.{relation_of}
 use Rattle.object_arena.specs.Graph.{Graph, IsObject, object_at}
 use Rattle.relations.specs.Mirror.{link_at}
-use Rattle.programs.specs.Programs.{Run, quiet}
+use Rattle.keeper_core.specs.Programs.{Run, quiet}
 use Rattle.session_scopes.specs.SessionState.{SessionState}
 use Rattle.session_calls.specs.Refusals.{fault_in}
 use Rattle.session_links.specs.declared.reading.Related.{Related}

@@ -1,8 +1,8 @@
 -- The calls on links, as programs of the store and of the session beside it.
 use Rattle.base_core.specs.declared.ids.ObjId.{ObjId}
 use Rattle.base_core.specs.declared.ids.RelNo.{RelNo}
-use Rattle.programs.specs.Programs.{Run, ◌>>=◌}
-use Rattle.programs.specs.Beside.{changes, on_own}
+use Rattle.keeper_core.specs.Programs.{Run, ◌>>=◌}
+use Rattle.keeper_core.specs.Beside.{changes, on_own}
 use Rattle.relations.specs.declared.calls.LinkCall.{LinkCall}
 use Rattle.session_calls.specs.Parts.{World, checked}
 use Rattle.session_calls.specs.Steps.{enter}

@@ -7,7 +7,7 @@ ghost use Rattle.class_mapping.specs.Mapped.{relations_of};
 ghost use Rattle.object_arena.specs.Fit.{relation_of};
 ghost use Rattle.object_arena.specs.Graph.{IsObject, object_at};
 ghost use Rattle.object_arena.specs.Identity.{IsGraph};
-ghost use Rattle.programs.specs.Alone.{IsOwn};
+ghost use Rattle.keeper_core.specs.Alone.{IsOwn};
 ghost use Rattle.relations.specs.Calls.{end_of, is_of_collection, link_change};
 ghost use Rattle.relations.specs.Fits.{ChangeFits};
 ghost use Rattle.relations.specs.Keys.{IsEnd};

@@ -9,8 +9,8 @@ ghost use Rattle.relations.specs.Fits.{ChangeFits, PutFits};
 ghost use Rattle.relations.specs.Mirror.{with_orphan, with_put};
 ghost use Rattle.relations.specs.Places.{IsPlaced, IsPutIn};
 ghost use Rattle.session_scopes.specs.SessionState.{SameObjects};
-ghost use Rattle.touching.specs.Same.{same_object};
-ghost use Rattle.touching.specs.Touched.{frames_touched_between};
+ghost use Rattle.object_records.specs.Same.{same_object};
+ghost use Rattle.object_records.specs.Touched.{frames_touched_between};
 ghost use Rattle.session_links.specs.Linking as spec;
 ghost use Rattle.session_links.specs.Putting as putting;
 ghost use Rattle.session_links.specs.Relinked.{IsRelinked};
@@ -18,10 +18,10 @@ ghost use Rattle.session_links.specs.Relinked.{IsRelinked};
 use base_core::{Copied, ObjId, Refusal, RelNo};
 use class_mapping::Mapping;
 use object_arena::{Arena, Link, Object};
+use object_records::{same_object, touch_if};
 use relations::{Change, LinkPut};
 use savepoints::Frames;
 use session_scopes::{ObjectStep, Session};
-use touching::{same_object, touch_if};
 
 /// A link is put in the place of another.
 #[derive(Drop)]

@@ -9,12 +9,12 @@ use Rattle.object_arena.specs.declared.object.Object.{Object}
 use Rattle.object_arena.specs.declared.object.State.{State}
 use Rattle.object_arena.specs.Graph.{either_fault, object_at, with_object}
 use Rattle.object_arena.specs.Identity.{IsGraph}
-use Rattle.programs.specs.Alone.{IsOwn}
-use Rattle.programs.specs.Store.{Store}
-use Rattle.programs.specs.Programs.{Run, ends_early}
-use Rattle.programs.specs.Moment.{Moment}
-use Rattle.programs.specs.Beside.{changes}
-use Rattle.programs.proofs.Lifting.{lost}
+use Rattle.keeper_core.specs.Alone.{IsOwn}
+use Rattle.keeper_core.specs.Store.{Store}
+use Rattle.keeper_core.specs.Programs.{Run, ends_early}
+use Rattle.keeper_core.specs.Moment.{Moment}
+use Rattle.keeper_core.specs.Beside.{changes}
+use Rattle.keeper_core.proofs.Lifting.{lost}
 use Rattle.session_parts.specs.Depths.{HasDepth}
 use Rattle.session_scopes.specs.SessionState.{AreAlikeButNotes, IsInStep, SameObjects, SessionState, with_graph}
 use Rattle.session_calls.specs.Calling.{IsSessionCall}

@@ -1,5 +1,7 @@
-pub mod TakingLemmas
-pub mod JoiningLemmas
-pub mod ListLemmas
 pub mod Acting
+pub mod JoiningLemmas
+mod Judged
+pub mod ListLemmas
 pub mod OutsiderLemmas
+pub mod Refusing
+pub mod TakingLemmas

@@ -16,8 +16,8 @@ use Rattle.object_arena.specs.declared.object.State.TheVariants.{Transient, Pend
 use Rattle.object_arena.specs.Graph.{Graph, is_persistent, no_object, object_at, place_of, root_at, with_object}
 use Rattle.object_arena.specs.Identity.{IsGraph, has_key, holds_at, is_identified}
 use Rattle.savepoints.specs.Scopes.{Framed}
-use Rattle.touching.specs.Touched.{differs, frames_touched_between, frames_with_touched, object_ids}
-use Rattle.touching.proofs.Exact.{object_itself}
+use Rattle.object_records.specs.Touched.{differs, frames_touched_between, frames_with_touched, object_ids}
+use Rattle.object_records.proofs.Exact.{object_itself}
 use Rattle.session_scopes.specs.SessionState.{SessionState, with_graph}
 use Rattle.session_calls.specs.Parts.{fault_if}
 use Rattle.session_objects.specs.Conflicts.{conflict_fault, conflicts_in, conflicts_under, has_same_identity, is_mapped}

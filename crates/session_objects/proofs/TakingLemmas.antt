@@ -26,8 +26,8 @@ use Rattle.object_arena.specs.Graph.{Graph, IsObject, cell_put, either_fault, ex
 use Rattle.object_arena.proofs.TurnLemmas.{with_same, written_twice}
 use Rattle.session_parts.specs.Ends.{object_unmarked}
 use Rattle.session_scopes.specs.Making.{first_given_fault, object_with, unwritten_cell, with_given}
-use Rattle.touching.specs.Same.{same_object}
-use Rattle.touching.proofs.Differing.{differs_as}
+use Rattle.object_records.specs.Same.{same_object}
+use Rattle.object_records.proofs.Differing.{differs_as}
 use Rattle.session_objects.specs.Taking.{changed_values, is_value_changed, object_taken, returned_object, taken_under, with_changed}
 
 -- ---- what values leave of an object

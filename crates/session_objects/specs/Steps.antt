@@ -2,8 +2,8 @@
 use Rattle.std.specs.Prelude.{◌≡◌, ◌⊎◌, Option, Some, true}
 use Rattle.base_core.specs.declared.ids.ObjId.{ObjId}
 use Rattle.base_core.specs.declared.refusal.Refusal.{Refusal}
-use Rattle.programs.specs.Programs.{Run, ends_early, ◌>>=◌}
-use Rattle.programs.specs.Beside.{changes}
+use Rattle.keeper_core.specs.Programs.{Run, ends_early, ◌>>=◌}
+use Rattle.keeper_core.specs.Beside.{changes}
 use Rattle.session_scopes.specs.SessionState.{SessionState}
 use Rattle.session_calls.specs.Parts.{World, checked}
 use Rattle.session_calls.specs.Steps.{enter}

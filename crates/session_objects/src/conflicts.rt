@@ -4,7 +4,7 @@ ghost use Rattle.std.specs.Prelude.{◌≡◌, None, Some, IfSome};
 ghost use Rattle.std.specs.List.{list_any};
 ghost use Rattle.object_arena.specs.Graph.{IsObject, object_at};
 ghost use Rattle.object_arena.specs.Identity.{IsGraph, has_key};
-ghost use Rattle.programs.specs.Alone.{IsOwn};
+ghost use Rattle.keeper_core.specs.Alone.{IsOwn};
 ghost use Rattle.session_objects.specs.Conflicts as spec;
 ghost use Rattle.session_objects.specs.Taking.{AreMade, AreOnce, MayComeIn, MayJoin};
 

@@ -8,18 +8,18 @@ ghost use Rattle.object_arena.specs.Fit.{IsFit, Keeps};
 ghost use Rattle.object_arena.specs.Graph.{IsObject, object_at, with_object};
 ghost use Rattle.object_arena.specs.Identity.{IsFree};
 ghost use Rattle.session_parts.specs.Ends.{object_unmarked};
-ghost use Rattle.touching.specs.Same.{same_object};
-ghost use Rattle.touching.specs.Touched.{frames_touched_between};
+ghost use Rattle.object_records.specs.Same.{same_object};
+ghost use Rattle.object_records.specs.Touched.{frames_touched_between};
 ghost use Rattle.session_objects.specs.Taking as spec;
 
 use base_core::{AttrNo, Copied, ObjId, Refusal, Value, compare};
 use class_mapping::Mapping;
 use object_arena::{Arena, Cell, Object, State};
+use object_records::touch_if;
 use savepoints::Frames;
 use session_parts::unmark;
 use session_scopes::{Given, ObjectStep, put_given};
 use std::alloc::Global;
-use touching::touch_if;
 
 /// An object comes in, under an add number where it is transient.
 #[derive(Drop)]

@@ -1,8 +1,8 @@
 -- How many scopes are in progress, in a session and in the keeper beside it.
 use Rattle.std.specs.Prelude.{◌≡◌, ℕ, Bool, true, false, List, [], ◌∷◌, Result, Ok, Err}
 use Rattle.base_core.specs.declared.refusal.Refusal.{Refusal}
-use Rattle.programs.specs.Programs.{ends_early}
-use Rattle.programs.specs.Moment.{Moment}
+use Rattle.keeper_core.specs.Programs.{ends_early}
+use Rattle.keeper_core.specs.Moment.{Moment}
 use Rattle.savepoints.specs.declared.scope.Scope.{Scope}
 
 abbrev pub has_scope : List Scope → Bool

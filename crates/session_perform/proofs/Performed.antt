@@ -6,13 +6,13 @@ use Rattle.base_core.specs.declared.refusal.Refusal.{Refusal}
 use Rattle.base_core.specs.declared.refusal.Refusal.TheVariants.{Memory}
 use Rattle.class_types.specs.Rules.{Rules}
 use Rattle.class_mapping.specs.Mapped.{IsClass, Mapped}
-use Rattle.programs.specs.Alone.{IsQuiet}
-use Rattle.programs.specs.Store.{Store}
-use Rattle.programs.specs.Programs.{Run, ◌>>=◌, give}
-use Rattle.programs.specs.Moment.{Moment}
-use Rattle.programs.specs.Beside.{on_own}
-use Rattle.programs.proofs.Lifting.{chosen, quietly}
-use Rattle.programs.proofs.Sequence.{done, no_memory, then_err, then_ok}
+use Rattle.keeper_core.specs.Alone.{IsQuiet}
+use Rattle.keeper_core.specs.Store.{Store}
+use Rattle.keeper_core.specs.Programs.{Run, ◌>>=◌, give}
+use Rattle.keeper_core.specs.Moment.{Moment}
+use Rattle.keeper_core.specs.Beside.{on_own}
+use Rattle.keeper_core.proofs.Lifting.{chosen, quietly}
+use Rattle.keeper_core.proofs.Sequence.{done, no_memory, then_err, then_ok}
 use Rattle.session_parts.proofs.ObjectLemmas.{class_still, made_still}
 use Rattle.session_scopes.specs.SessionState.{AreThereStill, IsInStep, IsMadeOf, SameObjects, SessionState}
 use Rattle.session_calls.specs.Calling.{IsSessionCall}

@@ -3,10 +3,10 @@ use Rattle.std.proofs.Common.{◌≡◌, None, Option, Result, Ok, Err, IfErr, O
 use Rattle.base_core.specs.declared.refusal.Refusal.{Refusal}
 use Rattle.base_core.specs.declared.refusal.Refusal.TheVariants.{Memory}
 use Rattle.class_types.specs.Rules.{Rules}
-use Rattle.programs.specs.Alone.{IsQuiet}
-use Rattle.programs.specs.Store.{Store}
-use Rattle.programs.specs.Programs.{Run, ends_early}
-use Rattle.programs.specs.Moment.{Moment}
+use Rattle.keeper_core.specs.Alone.{IsQuiet}
+use Rattle.keeper_core.specs.Store.{Store}
+use Rattle.keeper_core.specs.Programs.{Run, ends_early}
+use Rattle.keeper_core.specs.Moment.{Moment}
 use Rattle.session_scopes.specs.SessionState.{SessionState}
 use Rattle.session_calls.specs.Refusals.{Before, Early, IsRefused, fault_in}
 use Rattle.command_resolve.specs.declared.answer.Answer.{Answer}

@@ -8,10 +8,10 @@ use Rattle.base_core.specs.declared.refusal.Refusal.{Refusal}
 use Rattle.base_core.specs.declared.value.Value.{Value}
 use Rattle.class_types.specs.Rules.{Rules}
 use Rattle.object_arena.specs.Graph.{Graph, object_at}
-use Rattle.programs.specs.Store.{Store}
-use Rattle.programs.specs.Programs.{Run, ◌>>=◌, give}
-use Rattle.programs.specs.Moment.{Moment, Runs}
-use Rattle.programs.specs.Beside.{by_own, moment_beside, on_own}
+use Rattle.keeper_core.specs.Store.{Store}
+use Rattle.keeper_core.specs.Programs.{Run, ◌>>=◌, give}
+use Rattle.keeper_core.specs.Moment.{Moment, Runs}
+use Rattle.keeper_core.specs.Beside.{by_own, moment_beside, on_own}
 use Rattle.session_parts.specs.Depths.{StaysAt}
 use Rattle.session_scopes.specs.SessionState.{AreThereStill, SessionState}
 use Rattle.session_calls.specs.Parts.{World}
@@ -19,7 +19,7 @@ use Rattle.session_calls.specs.Steps as calls
 use Rattle.session_tables.specs.Steps.{change_all}
 use Rattle.session_tables.specs.declared.tables.TableChange.TheVariants.{Create, Drop}
 use Rattle.session_objects.specs.Steps.{add}
-use Rattle.session_values.specs.Steps as values
+use Rattle.session_objects.specs.ValueSteps as values
 use Rattle.session_links.specs.Steps as links
 use Rattle.session_links.specs.declared.reading.Related.{Related}
 use Rattle.session_links.specs.declared.reading.Related.TheVariants.{One, Many}

@@ -4,10 +4,10 @@ use Rattle.base_core.specs.declared.refusal.Refusal.{Refusal}
 use Rattle.class_types.specs.Rules.{Rules}
 use Rattle.keeper_core.specs.Keeping.{RefusesBulk, RefusesSelect}
 use Rattle.object_arena.specs.Graph.{either_fault}
-use Rattle.programs.specs.Store.{Store}
-use Rattle.programs.specs.Programs.{ends_early}
-use Rattle.programs.specs.Moment.{Moment}
-use Rattle.programs.specs.declared.sent.Sent.TheVariants as sent
+use Rattle.keeper_core.specs.Store.{Store}
+use Rattle.keeper_core.specs.Programs.{ends_early}
+use Rattle.keeper_core.specs.Moment.{Moment}
+use Rattle.keeper_core.specs.declared.sent.Sent.TheVariants as sent
 use Rattle.session_scopes.specs.SessionState.{SessionState}
 use Rattle.session_calls.specs.Refusals.{IsRefused, entered, fault_in, mark_fault, read_fault}
 use Rattle.session_calls.specs.Steps.{pending_fault}
@@ -15,7 +15,7 @@ use Rattle.session_tables.specs.Steps.{transaction_fault}
 use Rattle.session_acts.specs.Savepoints.{handle_fault, limit_fault}
 use Rattle.session_statements.specs.Steps.{update_fault}
 use Rattle.session_objects.specs.Conflicts.{add_fault}
-use Rattle.session_values.specs.Steps.{judged_fault, valid_made, value_invalid}
+use Rattle.session_objects.specs.ValueSteps.{judged_fault, valid_made, value_invalid}
 use Rattle.session_links.specs.Linking.{change_fault}
 use Rattle.session_links.specs.Reading.{related_fault}
 use Rattle.session_acts.specs.Refusals.{IsRefusedFlushing, IsRefusedSending}

@@ -17,14 +17,14 @@ use base_core::{AttrNo, ClassId, Name, ObjId, Refusal, Value};
 use class_types::Hooks;
 use command_resolve::Answer;
 use keeper_core::Keeper;
+use session_objects::make_valid;
 use session_scopes::Session;
-use session_values::make_valid;
 use shell_parts::Bound;
 
 /// Makes a transient object of a class with these values, for which the name is to stand.
 ///
 /// # Errors
-/// As those of `session_values::make_valid`.
+/// As those of `session_objects::make_valid`.
 pub(crate) fn make<K: Keeper>(
     session: &mut Session,
     keeper: &K,

@@ -16,10 +16,9 @@ use keeper_core::Keeper;
 use session_acts::flush_now;
 use session_calls::{close, delete};
 use session_links::change_link;
-use session_objects::add;
+use session_objects::{add, set_valid};
 use session_scopes::Session;
 use session_tables::{create_all, drop_all};
-use session_values::set_valid;
 
 /// Does what a resolved line asks for, and answers what its reply tells. All that the line names is to be there. Values of new objects
 /// and of cells are asked of these validators.

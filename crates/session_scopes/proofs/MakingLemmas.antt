@@ -18,7 +18,7 @@ use Rattle.object_arena.specs.Fit.{cell_fits, is_of_kind, value_fits}
 use Rattle.object_arena.specs.declared.object.Object.{Object}
 use Rattle.object_arena.specs.Graph.{Graph, IsObject, cell_put, either_fault, make, object_at, with_cell}
 use Rattle.object_arena.proofs.TurnLemmas.{with_same, written_twice}
-use Rattle.programs.specs.Programs.{quiet}
+use Rattle.keeper_core.specs.Programs.{quiet}
 use Rattle.session_scopes.specs.Making.{first_given_fault, given_fault, made_unless, made_with, object_made, object_with, unwritten_cell, with_given}
 use Rattle.session_scopes.specs.SessionState.{SessionState}
 

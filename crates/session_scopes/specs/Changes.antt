@@ -13,7 +13,7 @@ use Rattle.object_arena.specs.declared.object.State.{State}
 use Rattle.object_arena.specs.declared.object.State.TheVariants.{Persistent}
 use Rattle.object_arena.specs.Graph.{Graph, cell_at, is_persistent, key_fault, object_at, with_object, with_value}
 pub use Rattle.object_parts.specs.Cells.{is_kept_cell}
-use Rattle.programs.specs.Programs.{Run, quiet}
+use Rattle.keeper_core.specs.Programs.{Run, quiet}
 use Rattle.session_scopes.specs.SessionState.{SessionState, with_graph}
 
 -- the objects become these, unless there is a fault

@@ -11,7 +11,7 @@ use Rattle.class_mapping.specs.Mapped.{Mapped, attribute_of}
 use Rattle.object_arena.specs.declared.object.Cell.{Cell}
 use Rattle.object_arena.specs.declared.object.Object.{Object}
 use Rattle.object_arena.specs.Graph.{Graph, cell_put, either_fault, make, object_at, with_object}
-use Rattle.programs.specs.Programs.{Run, quiet}
+use Rattle.keeper_core.specs.Programs.{Run, quiet}
 use Rattle.session_scopes.specs.SessionState.{SessionState}
 
 -- a value for an attribute of a class is not NULL and of another kind

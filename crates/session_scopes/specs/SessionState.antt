@@ -13,10 +13,10 @@ use Rattle.savepoints.specs.declared.scope.Scope.{Scope}
 use Rattle.savepoints.specs.Scopes.{Framed, HasKeys, no_frames}
 use Rattle.keeper_core.specs.declared.notes.Note.{Note}
 use Rattle.keeper_core.specs.declared.notes.Note.TheVariants as note
-use Rattle.programs.specs.declared.sent.Sent.{Sent}
-use Rattle.programs.specs.Programs.{Event, Sends, Writes}
-use Rattle.programs.specs.Moment.{Moment}
-use Rattle.touching.specs.Touched.{frames_touched_between}
+use Rattle.keeper_core.specs.declared.sent.Sent.{Sent}
+use Rattle.keeper_core.specs.Programs.{Event, Sends, Writes}
+use Rattle.keeper_core.specs.Moment.{Moment}
+use Rattle.object_records.specs.Touched.{frames_touched_between}
 use Rattle.session_parts.specs.Depths.{HasDepth, StaysAt, has_scope}
 use Rattle.session_scopes.specs.Handles.{Drawn, no_handles}
 

@@ -7,7 +7,7 @@ ghost use Rattle.class_mapping.specs.Mapped.{IsAttribute, IsClass};
 ghost use Rattle.object_arena.specs.Every.{classes_of};
 ghost use Rattle.object_arena.specs.Fit.{IsFit};
 ghost use Rattle.object_arena.specs.Graph.{IsObject, object_at, with_cell};
-ghost use Rattle.programs.specs.Alone.{IsOwn};
+ghost use Rattle.keeper_core.specs.Alone.{IsOwn};
 ghost use Rattle.session_scopes.specs.Making as spec;
 
 use base_core::{AttrNo, ClassId, Copied, ObjId, Refusal, Value};

@@ -8,7 +8,7 @@ ghost use Rattle.class_mapping.specs.Mapped.{IsAttribute, IsClass, attributes_of
 ghost use Rattle.object_arena.specs.Fit.{IsFit};
 ghost use Rattle.object_arena.specs.Graph.{IsCell, IsObject, is_persistent, object_at, value_fault};
 ghost use Rattle.std.specs.List.{All, list_all};
-ghost use Rattle.programs.specs.Alone.{IsQuiet};
+ghost use Rattle.keeper_core.specs.Alone.{IsQuiet};
 ghost use Rattle.savepoints.specs.Scopes.{no_frames, scope_limit};
 ghost use Rattle.session_scopes.specs.Changes as changes;
 ghost use Rattle.session_scopes.specs.Handles.{place_of_handle};
@@ -23,11 +23,11 @@ use class_mapping::Mapping;
 use keeper_core::{Note, Notes, Sent};
 use object_arena::{Arena, Cell, Object, State};
 use object_parts::is_of_kept_key;
+use object_records::{touch_for_mark, touch_for_value};
 use savepoints::Frames;
 use session_parts::{commit_all, let_go_all};
 use std::alloc::Global;
 use std::marker::Model;
-use touching::{touch_for_mark, touch_for_value};
 
 /// A session over a configured mapping: its objects, the scopes in progress with the handles of the savepoints,
 /// whether a flush failed that was not rolled back yet, and what the command did so far.

@@ -6,7 +6,7 @@ ghost use Rattle.class_mapping.specs.Mapped.{Mapped};
 ghost use Rattle.object_arena.specs.Graph.{Graph};
 ghost use Rattle.object_arena.specs.Every.{classes_of};
 ghost use Rattle.object_arena.specs.Fit.{IsFit};
-ghost use Rattle.touching.specs.Touched.{frames_touched_between};
+ghost use Rattle.object_records.specs.Touched.{frames_touched_between};
 
 use base_core::Refusal;
 use class_mapping::Mapping;

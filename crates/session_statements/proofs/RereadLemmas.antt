@@ -12,9 +12,9 @@ use Rattle.object_arena.specs.declared.object.Link.{Link}
 use Rattle.object_arena.specs.declared.object.Link.TheVariants.{Unset, Unloaded, One, Many}
 use Rattle.object_arena.specs.declared.object.Object.{Object}
 use Rattle.object_arena.specs.Graph.{expired_cell, expired_object, is_persistent}
-use Rattle.touching.specs.Same.{same_object}
-use Rattle.touching.proofs.Differing.{differs_as}
-use Rattle.touching.proofs.Exact.{object_itself}
+use Rattle.object_records.specs.Same.{same_object}
+use Rattle.object_records.proofs.Differing.{differs_as}
+use Rattle.object_records.proofs.Exact.{object_itself}
 use Rattle.session_statements.specs.Rewriting.{are_none, expired_if, is_cell_expired, is_expired, is_link_unloaded, is_reread}
 
 -- ---- cells and links of which nothing is known

@@ -12,15 +12,15 @@ use Rattle.sql_semantics.specs.Applied as bulks
 use Rattle.sql_semantics.specs.Applied.{table_of}
 use Rattle.keeper_core.specs.Calls as call
 use Rattle.keeper_core.specs.Keeping.{IsBulk, IsQuery, IsStatement, IsUndone, RefusesBulk, RefusesSelect}
-use Rattle.programs.specs.declared.sent.Sent.{Sent}
-use Rattle.programs.specs.declared.sent.Sent.TheVariants as sent
-use Rattle.programs.specs.Alone.{IsOwn}
-use Rattle.programs.specs.Store.{Store}
-use Rattle.programs.specs.Programs.{Run, ◌>>=◌, Sends, ends_early, give}
-use Rattle.programs.specs.Moment.{Moment}
-use Rattle.programs.specs.Beside.{changes, on_store}
-use Rattle.programs.proofs.Lifting.{lost, spoiled}
-use Rattle.programs.proofs.Sequence.{then_ok}
+use Rattle.keeper_core.specs.declared.sent.Sent.{Sent}
+use Rattle.keeper_core.specs.declared.sent.Sent.TheVariants as sent
+use Rattle.keeper_core.specs.Alone.{IsOwn}
+use Rattle.keeper_core.specs.Store.{Store}
+use Rattle.keeper_core.specs.Programs.{Run, ◌>>=◌, Sends, ends_early, give}
+use Rattle.keeper_core.specs.Moment.{Moment}
+use Rattle.keeper_core.specs.Beside.{changes, on_store}
+use Rattle.keeper_core.proofs.Lifting.{lost, spoiled}
+use Rattle.keeper_core.proofs.Sequence.{then_ok}
 use Rattle.session_scopes.specs.SessionState.{AreAlikeButNotes, IsInStep, SameObjects, SessionState, with_note, with_notes}
 use Rattle.session_calls.specs.Calling.{IsSessionCall}
 use Rattle.session_calls.specs.Parts.{World, checked}

@@ -10,8 +10,8 @@ use Rattle.object_arena.specs.Every.{each_object}
 use Rattle.object_arena.specs.Graph.{Graph, IsObject, no_object, object_at, place_of}
 use Rattle.object_arena.specs.Identity.{id_of_place}
 use Rattle.savepoints.specs.Scopes.{Framed, touch}
-use Rattle.touching.specs.Same.{same_object}
-use Rattle.touching.specs.Touched.{differs, frames_touched_between, frames_with_touched, object_ids}
+use Rattle.object_records.specs.Same.{same_object}
+use Rattle.object_records.specs.Touched.{differs, frames_touched_between, frames_with_touched, object_ids}
 
 -- ---- the objects by number
 

@@ -2,9 +2,9 @@
 use Rattle.std.specs.Prelude.{◌≡◌, Some, MatchBool}
 use Rattle.base_core.specs.Counts.{Rose}
 use Rattle.base_core.specs.declared.refusal.Refusal.{Refusal}
-use Rattle.programs.specs.declared.sent.Sent.{Sent}
-use Rattle.programs.specs.Moment.{Moment}
-use Rattle.programs.specs.Programs.{ends_early}
+use Rattle.keeper_core.specs.declared.sent.Sent.{Sent}
+use Rattle.keeper_core.specs.Moment.{Moment}
+use Rattle.keeper_core.specs.Programs.{ends_early}
 use Rattle.session_scopes.specs.SessionState.{AreAlikeButNotes, SessionState}
 
 -- Memory or the store ended it early; or the keeper refused the statement for what may refuse it, and keeps that as its last

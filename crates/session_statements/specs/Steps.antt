@@ -18,8 +18,8 @@ use Rattle.expr_types.specs.declared.select.Bulk.TheVariants as bulks
 use Rattle.expr_types.specs.declared.select.Select.{Select}
 use Rattle.sql_semantics.specs.Applied.{table_of}
 use Rattle.sql_semantics.specs.Plain.{is_free_column}
-use Rattle.programs.specs.Programs.{Run, ◌>>=◌, give}
-use Rattle.programs.specs.Beside.{by_own, changes, on_store}
+use Rattle.keeper_core.specs.Programs.{Run, ◌>>=◌, give}
+use Rattle.keeper_core.specs.Beside.{by_own, changes, on_store}
 use Rattle.keeper_core.specs.Calls as call
 use Rattle.session_scopes.specs.SessionState.{SessionState, with_notes}
 use Rattle.session_calls.specs.Parts.{World, checked, fault_if}

@@ -3,7 +3,7 @@
 ghost use Rattle.std.specs.Prelude.{◌≡◌, ◌<◌, IfErr, IfSome, OnOk, None, false, length, not};
 ghost use Rattle.std.specs.List.{list_all, list_any};
 ghost use Rattle.class_layouts.specs.Faults.{is_named};
-ghost use Rattle.programs.specs.Alone.{IsOwn};
+ghost use Rattle.keeper_core.specs.Alone.{IsOwn};
 ghost use Rattle.schema_core.specs.Catalog.{spec_of};
 ghost use Rattle.sql_semantics.specs.Plain.{is_free_column};
 ghost use Rattle.session_scopes.specs.SessionState.{AreAlikeButNotes, IsInStep};

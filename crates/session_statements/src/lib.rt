@@ -1,10 +1,13 @@
-//! What a session asks of its tables, and the bulk statements by which it writes them, over any keeper: what is asked before all
-//! that is to be written is written, and what is done behind that.
+//! What a session sends over any keeper beside its objects: the plan of a flush, what is asked of its tables, and the bulk statements by
+//! which it writes them. What is asked before all that is to be written is written stands apart from what is done behind that.
 #![tactic(auto)]
 
 mod asking;
 mod rereading;
+mod run;
 mod sending;
+mod writing;
 
 pub use asking::enter_bulk;
+pub use run::send_plan;
 pub use sending::{bulk, rows};

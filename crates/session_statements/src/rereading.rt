@@ -7,8 +7,8 @@ ghost use Rattle.class_mapping.specs.Mapped.{IsClass, tables_of};
 ghost use Rattle.object_arena.specs.Fit.{IsFit, Keeps};
 ghost use Rattle.object_arena.specs.Graph.{IsObject, is_persistent, object_at, with_object};
 ghost use Rattle.savepoints.specs.Scopes.{touch};
-ghost use Rattle.touching.specs.Same.{same_object};
-ghost use Rattle.touching.specs.Touched.{frames_touched_between};
+ghost use Rattle.object_records.specs.Same.{same_object};
+ghost use Rattle.object_records.specs.Touched.{frames_touched_between};
 ghost use Rattle.session_statements.specs.Rewriting as spec;
 
 use base_core::{ClassId, ObjId, Refusal, TableId};
@@ -84,7 +84,7 @@ fn touch_each(
 }
 
 /// An object is touched where it comes to differ. The only refusal is `Memory`.
-#[tactic(auto, using(touching::proofs::Scopes::kept_scopes, object_arena::proofs::FitLemmas::fit_class))]
+#[tactic(auto, using(object_records::proofs::Scopes::kept_scopes, object_arena::proofs::FitLemmas::fit_class))]
 fn touch_one(
     mapping: &Mapping,
     arena: &Arena,

@@ -2,7 +2,7 @@
 
 ghost use Rattle.std.specs.Prelude.{◌≡◌, ◌<◌, IfErr, IfOk, OnErr, OnOk, length};
 ghost use Rattle.base_core.specs.declared.refusal.Refusal.TheVariants.{Memory};
-ghost use Rattle.programs.specs.declared.sent.Sent.TheVariants as sent;
+ghost use Rattle.keeper_core.specs.declared.sent.Sent.TheVariants as sent;
 ghost use Rattle.sql_semantics.specs.Plain.{IsPlainBulk, IsPlainSelect};
 ghost use Rattle.sql_semantics.specs.Shapes.{AreGiven, AreOfItems, AreWide};
 ghost use Rattle.keeper_core.specs.Keeping.{HoldsLegalRows, HoldsRows, RefusesBulk, RefusesSelect};

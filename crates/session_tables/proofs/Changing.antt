@@ -7,13 +7,13 @@ use Rattle.base_core.specs.declared.refusal.Refusal.{Refusal}
 use Rattle.base_core.specs.declared.refusal.Refusal.TheVariants.{InvalidRequestError, Memory}
 use Rattle.base_core.specs.declared.refusal.RequestKind.TheVariants.{InTransaction}
 use Rattle.schema_core.specs.Tables.{Tables, is_created}
-use Rattle.programs.specs.declared.sent.Sent.{Sent}
-use Rattle.programs.specs.Store.{Store, with_empty_table, without_table}
-use Rattle.programs.specs.Programs.{Event, Run, Sends, each, give, quiet}
-use Rattle.programs.specs.Moment.{AsTold, Moment, Ran, Runs, Told, parts}
-use Rattle.programs.specs.Beside.{Beside, by_own, moment_beside, told_beside}
-use Rattle.programs.proofs.Lifting.{lost}
-use Rattle.programs.proofs.Sequence.{done, ran_out, then_err, then_ok}
+use Rattle.keeper_core.specs.declared.sent.Sent.{Sent}
+use Rattle.keeper_core.specs.Store.{Store, with_empty_table, without_table}
+use Rattle.keeper_core.specs.Programs.{Event, Run, Sends, each, give, quiet}
+use Rattle.keeper_core.specs.Moment.{AsTold, Moment, Ran, Runs, Told, parts}
+use Rattle.keeper_core.specs.Beside.{Beside, by_own, moment_beside, told_beside}
+use Rattle.keeper_core.proofs.Lifting.{lost}
+use Rattle.keeper_core.proofs.Sequence.{done, ran_out, then_err, then_ok}
 use Rattle.keeper_core.specs.Calls as call
 use Rattle.keeper_core.specs.Keeping.{IsCall, IsCoherent}
 use Rattle.keeper_core.specs.declared.notes.Note.{Note}

@@ -9,12 +9,12 @@ use Rattle.base_core.specs.declared.refusal.Refusal.TheVariants.{Memory}
 use Rattle.base_core.specs.declared.value.Value.{Value}
 use Rattle.schema_core.specs.Catalog.{Catalog, IsTable}
 use Rattle.schema_core.specs.DependencyOrder.{table_ids}
-use Rattle.programs.specs.Store.{Store}
-use Rattle.programs.specs.Programs.{Run, each, ends_early}
-use Rattle.programs.specs.Moment.{Moment, Reaches, Runs, parts}
-use Rattle.programs.specs.Beside.{no_note, on_store}
-use Rattle.programs.proofs.Lifting.{on_keeper}
-use Rattle.programs.proofs.Sequence.{each_end, each_err, each_turn, reaches_start}
+use Rattle.keeper_core.specs.Store.{Store}
+use Rattle.keeper_core.specs.Programs.{Run, each, ends_early}
+use Rattle.keeper_core.specs.Moment.{Moment, Reaches, Runs, parts}
+use Rattle.keeper_core.specs.Beside.{no_note, on_store}
+use Rattle.keeper_core.proofs.Lifting.{on_keeper}
+use Rattle.keeper_core.proofs.Sequence.{each_end, each_err, each_turn, reaches_start}
 use Rattle.keeper_core.specs.Calls as call
 use Rattle.keeper_core.specs.Keeping.{IsScan}
 use Rattle.session_parts.specs.Depths.{HasDepth, StaysAt}

@@ -4,9 +4,9 @@ use Rattle.base_core.specs.declared.ids.TableId.{TableId}
 use Rattle.base_core.specs.declared.value.Value.{Value}
 use Rattle.schema_core.specs.Catalog.{Catalog}
 use Rattle.schema_core.specs.DependencyOrder.{table_ids}
-use Rattle.programs.specs.Store.{Store}
-use Rattle.programs.specs.Programs.{Run, ◌>>=◌, each, give}
-use Rattle.programs.specs.Beside.{by_own, no_note, on_store}
+use Rattle.keeper_core.specs.Store.{Store}
+use Rattle.keeper_core.specs.Programs.{Run, ◌>>=◌, each, give}
+use Rattle.keeper_core.specs.Beside.{by_own, no_note, on_store}
 use Rattle.keeper_core.specs.Calls as call
 use Rattle.session_calls.specs.Parts.{World}
 

@@ -6,11 +6,11 @@ use Rattle.base_core.specs.declared.refusal.Refusal.TheVariants.{InvalidRequestE
 use Rattle.base_core.specs.declared.refusal.RequestKind.TheVariants.{InTransaction}
 use Rattle.schema_core.specs.Catalog.{Catalog}
 use Rattle.schema_core.specs.DependencyOrder.{dependency_order}
-use Rattle.programs.specs.declared.sent.Sent.{Sent}
-use Rattle.programs.specs.declared.sent.Sent.TheVariants as sent
-use Rattle.programs.specs.Store.{Store}
-use Rattle.programs.specs.Programs.{Run, ◌>>=◌, each, give}
-use Rattle.programs.specs.Beside.{by_own, on_store}
+use Rattle.keeper_core.specs.declared.sent.Sent.{Sent}
+use Rattle.keeper_core.specs.declared.sent.Sent.TheVariants as sent
+use Rattle.keeper_core.specs.Store.{Store}
+use Rattle.keeper_core.specs.Programs.{Run, ◌>>=◌, each, give}
+use Rattle.keeper_core.specs.Beside.{by_own, on_store}
 use Rattle.keeper_core.specs.Calls as call
 use Rattle.session_scopes.specs.SessionState.{SessionState, depth_of, with_notes}
 use Rattle.session_calls.specs.Parts.{World, checked, fault_if}

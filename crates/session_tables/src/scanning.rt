@@ -2,8 +2,8 @@
 
 ghost use Rattle.std.specs.Prelude.{◌≡◌, IfErr, IfOk, OnOk, true};
 ghost use Rattle.std.specs.List.{All};
-ghost use Rattle.programs.specs.Moment.{Runs};
-ghost use Rattle.programs.specs.Programs.{ends_early};
+ghost use Rattle.keeper_core.specs.Moment.{Runs};
+ghost use Rattle.keeper_core.specs.Programs.{ends_early};
 ghost use Rattle.schema_core.specs.Catalog.{IsTable};
 ghost use Rattle.session_parts.specs.Depths.{HasDepth};
 ghost use Rattle.session_scopes.specs.SessionState.{IsInStep};
@@ -58,7 +58,7 @@ fn scan_each<K: Keeper>(
 }
 
 /// The tables with one more, where it was created.
-#[tactic(auto, using(programs::proofs::Sequence::sequence, crate::proofs::Scans::filling), unfolding(crate::specs::Dump::scan_one))]
+#[tactic(auto, using(keeper_core::proofs::Sequence::sequence, crate::proofs::Scans::filling), unfolding(crate::specs::Dump::scan_one))]
 fn scan_one<K: Keeper>(
     alloc: Global,
     keeper: &mut K,

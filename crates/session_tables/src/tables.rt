@@ -3,7 +3,7 @@
 ghost use Rattle.std.specs.Prelude.{◌≡◌, [], None, IfErr, IfOk, true};
 ghost use Rattle.std.specs.List.{All};
 ghost use Rattle.keeper_core.specs.Keeping.{IsCall};
-ghost use Rattle.programs.specs.Programs.{each, ends_early};
+ghost use Rattle.keeper_core.specs.Programs.{each, ends_early};
 ghost use Rattle.schema_core.specs.Catalog.{IsTable};
 ghost use Rattle.session_scopes.specs.SessionState.{AreAlikeButNotes, IsInStep};
 ghost use Rattle.session_calls.specs.Calling.{IsSessionCall};

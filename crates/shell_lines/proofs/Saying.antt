@@ -3,8 +3,8 @@ use Rattle.std.proofs.Common.{◌≡◌, ℕ, Bool, true, false, if◌then◌els
 use Rattle.base_core.specs.Answers.{Gives}
 use Rattle.base_core.specs.declared.refusal.Refusal.{Refusal}
 use Rattle.base_core.specs.declared.refusal.Refusal.TheVariants.{Memory, NotBuilt, ScriptError}
-use Rattle.programs.specs.Programs.{Run, quiet}
-use Rattle.programs.specs.Alone.{IsOwn, IsQuiet}
+use Rattle.keeper_core.specs.Programs.{Run, quiet}
+use Rattle.keeper_core.specs.Alone.{IsOwn, IsQuiet}
 use Rattle.script_types.specs.declared.command.Command.{Command}
 use Rattle.script_types.specs.declared.command.Command.TheVariants.{TableHead, ClassHead}
 use Rattle.script_read.specs.Line.{line as said_by}

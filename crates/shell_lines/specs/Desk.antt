@@ -7,7 +7,7 @@ use Rattle.script_types.specs.declared.command.Command.TheVariants as line
 use Rattle.script_types.specs.declared.command.Inside.{Inside}
 use Rattle.script_types.specs.declared.command.Inside.TheVariants as inside
 use Rattle.script_read.specs.Line.{line as said_by}
-use Rattle.programs.specs.Programs.{Run, quiet}
+use Rattle.keeper_core.specs.Programs.{Run, quiet}
 use Rattle.sayable_lines.specs.Sayable.{IsSayable}
 use Rattle.shell_parts.specs.declared.block.Block.{Block}
 use Rattle.shell_parts.specs.Blocks.{block_of, forms_of, with_line}

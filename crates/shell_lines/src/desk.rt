@@ -2,7 +2,7 @@
 
 ghost use Rattle.std.specs.Prelude.{◌≡◌, IfErr, IfOk, None};
 ghost use Rattle.base_core.specs.Answers.{Gives};
-ghost use Rattle.programs.specs.Alone.{IsOwn, IsQuiet};
+ghost use Rattle.keeper_core.specs.Alone.{IsOwn, IsQuiet};
 ghost use Rattle.sayable_lines.specs.Sayable.{IsSayable};
 ghost use Rattle.script_read.specs.Line.{line as said_by};
 ghost use Rattle.shell_parts.specs.Blocks.{block_of};

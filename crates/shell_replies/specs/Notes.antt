@@ -5,13 +5,13 @@ use Rattle.std.specs.Fmt.{decimal}
 use Rattle.base_core.specs.declared.refusal.Warning.{Warning}
 use Rattle.class_mapping.specs.Mapped.{Mapped}
 use Rattle.object_arena.specs.Graph.{Graph}
-use Rattle.programs.specs.declared.sent.Sent.{Sent}
+use Rattle.keeper_core.specs.declared.sent.Sent.{Sent}
 use Rattle.keeper_core.specs.declared.notes.Note.{Note}
 use Rattle.keeper_core.specs.declared.notes.Note.TheVariants as note
 use Rattle.printing.specs.Texts.{warning_text}
 use Rattle.schema_core.specs.Catalog.{Catalog}
 use Rattle.statement_lines.specs.StatementLines.{quoting_of}
-use Rattle.echo_lines.specs.Echo.{note_alters, sent_lines}
+use Rattle.statement_lines.specs.Echo.{note_alters, sent_lines}
 use Rattle.shell_replies.specs.declared.notes.PrintOptions.{PrintOptions}
 use Rattle.shell_replies.specs.Naming.{session_names}
 

@@ -3,7 +3,7 @@
 ghost use Rattle.std.specs.Prelude.{◌≡◌, [], ◌++◌, true, IfErr, OnOk, codes, string_bytes};
 ghost use Rattle.std.specs.List.{flat_map};
 ghost use Rattle.printing.specs.Texts.{name_with_number, value_text, with_leading_separators};
-ghost use Rattle.echo_lines.specs.Echo.{note_alters, sent_lines};
+ghost use Rattle.statement_lines.specs.Echo.{note_alters, sent_lines};
 ghost use Rattle.statement_lines.specs.StatementLines.{quoting_of as dialect_quoting};
 ghost use Rattle.shell_replies.specs.Answers.{line_of};
 ghost use Rattle.shell_replies.specs.Notes.{warning_line};
@@ -11,12 +11,11 @@ ghost use Rattle.shell_replies.specs.Replies.{answer_line, columns_text, count_l
 
 use crate::naming::SessionNames;
 use base_core::{ObjId, Refusal, RowList, RowValues, Value, Warning};
-use echo_lines::{put_later_foreigns, put_sent};
 use keeper_core::{Note, Sent};
 use printing::{Naming, RefusalText, RowText, ValueText, WarningText};
 use schema_core::{ColumnSpec, Schema, TableSpec};
 use script_types::Dialect;
-use statement_lines::quoting_of;
+use statement_lines::{put_later_foreigns, put_sent, quoting_of};
 use std::alloc::Global;
 use std::marker::Model;
 

@@ -6,15 +6,15 @@ use Rattle.base_core.specs.declared.refusal.Refusal.TheVariants.{CompileError, I
 use Rattle.base_core.specs.declared.refusal.RequestKind.TheVariants.{NotConfigured}
 use Rattle.class_mapping.specs.Mapped.{Mapped}
 use Rattle.class_types.specs.Rules.{Rules}
-use Rattle.programs.specs.Store.{Store}
-use Rattle.programs.specs.Programs.{ask}
-use Rattle.programs.specs.Moment.{Moment, Runs}
-use Rattle.programs.specs.Alone.{Tells, alone}
-use Rattle.programs.proofs.AloneLemmas.{asked_tells, tells_err, tells_lost as tells_memory_lost, tells_ok, then_own_err, then_own_ok}
+use Rattle.keeper_core.specs.Store.{Store}
+use Rattle.keeper_core.specs.Programs.{ask}
+use Rattle.keeper_core.specs.Moment.{Moment, Runs}
+use Rattle.keeper_core.specs.Alone.{Tells, alone}
+use Rattle.keeper_core.proofs.AloneLemmas.{asked_tells, tells_err, tells_lost as tells_memory_lost, tells_ok, then_own_err, then_own_ok}
 use Rattle.script_types.specs.declared.command.Command.{Command}
 use Rattle.script_types.specs.declared.command.Dialect.{Dialect}
 use Rattle.sql_semantics.specs.Checked.{Checked, ◌>>=◌}
-use Rattle.compiled_lines.specs.CompiledLines.{IsOfCompiling, compiled_line}
+use Rattle.statement_lines.specs.CompiledLines.{IsOfCompiling, compiled_line}
 use Rattle.session_scopes.specs.SessionState.{IsInStep, SessionState}
 use Rattle.session_perform.specs.Performing.{IsPerformed, program_of_resolved}
 use Rattle.command_resolve.specs.declared.answer.Answer.{Answer}

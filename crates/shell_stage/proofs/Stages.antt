@@ -7,7 +7,7 @@ use Rattle.base_core.specs.declared.refusal.Refusal.TheVariants.{ArgumentError, 
 use Rattle.class_types.specs.Rules.{Rules}
 use Rattle.class_mapping.specs.Mapped.{Mapped, fault_of}
 use Rattle.class_mapping.specs.Declaring.{configured_unless, configure}
-use Rattle.programs.specs.Alone.{IsOwn, Turned, Turns}
+use Rattle.keeper_core.specs.Alone.{IsOwn, Turned, Turns}
 use Rattle.session_scopes.specs.SessionState.{SessionState, new_session}
 use Rattle.shell_parts.specs.declared.block.Block.{Block}
 use Rattle.shell_parts.specs.Blocks.{IsOfDeclaring, declare}

@@ -12,7 +12,7 @@ use Rattle.script_types.specs.declared.command.Dialect.{Dialect}
 use Rattle.command_resolve.specs.declared.resolved.Resolved.{Resolved}
 use Rattle.command_resolve.specs.Resolving.{resolve}
 use Rattle.command_names.specs.Terms.{Bindings}
-use Rattle.compiled_lines.specs.CompiledLines.{compiled_line, tables_compiled}
+use Rattle.statement_lines.specs.CompiledLines.{compiled_line, tables_compiled}
 use Rattle.shell_stage.specs.declared.stage.Stage.{Stage}
 use Rattle.shell_stage.specs.declared.stage.Stage.TheVariants.{Declaring, Configured}
 

@@ -1,11 +1,11 @@
 -- What a command of the session did, and what a stage became.
 use Rattle.std.specs.Prelude.{length, Result, IfOk}
 use Rattle.base_core.specs.declared.refusal.Refusal.{Refusal}
-use Rattle.programs.specs.Alone.{Turns}
-use Rattle.programs.specs.Beside.{Beside, moment_beside}
-use Rattle.programs.specs.Moment.{Moment, Runs}
-use Rattle.programs.specs.Programs.{Run}
-use Rattle.programs.specs.Store.{Store}
+use Rattle.keeper_core.specs.Alone.{Turns}
+use Rattle.keeper_core.specs.Beside.{Beside, moment_beside}
+use Rattle.keeper_core.specs.Moment.{Moment, Runs}
+use Rattle.keeper_core.specs.Programs.{Run}
+use Rattle.keeper_core.specs.Store.{Store}
 use Rattle.session_parts.specs.Depths.{StaysAt}
 use Rattle.session_scopes.specs.SessionState.{SessionState}
 use Rattle.command_resolve.specs.declared.answer.Answer.{Answer}

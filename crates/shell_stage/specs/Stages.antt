@@ -1,8 +1,8 @@
 -- What a stage keeps, and how a keeper stands beside it.
 use Rattle.std.specs.Prelude.{◌≡◌, true, []}
 use Rattle.class_mapping.specs.Mapped.{Mapped}
-use Rattle.programs.specs.Moment.{Moment}
-use Rattle.programs.specs.Store.{Store}
+use Rattle.keeper_core.specs.Moment.{Moment}
+use Rattle.keeper_core.specs.Store.{Store}
 use Rattle.session_scopes.specs.SessionState.{IsInStep}
 use Rattle.command_resolve.specs.declared.answer.Answer.{Answer}
 use Rattle.command_names.specs.Standing.{AreOfDeclared, AreThere}

@@ -12,8 +12,8 @@ use Rattle.script_types.specs.declared.command.Dialect.{Dialect}
 use Rattle.shell_parts.specs.declared.block.Block.{Block}
 use Rattle.shell_parts.specs.Bindings.{bind}
 use Rattle.shell_parts.specs.Blocks.{declare}
-use Rattle.programs.specs.Programs.{Run, ◌>>=◌, ask}
-use Rattle.programs.specs.Beside.{Beside, on_own}
+use Rattle.keeper_core.specs.Programs.{Run, ◌>>=◌, ask}
+use Rattle.keeper_core.specs.Beside.{Beside, on_own}
 use Rattle.session_scopes.specs.SessionState.{SessionState, new_session}
 use Rattle.session_perform.specs.Performing.{program_of_resolved}
 use Rattle.command_resolve.specs.declared.answer.Answer.{Answer}

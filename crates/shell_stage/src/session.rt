@@ -6,7 +6,7 @@ ghost use Rattle.class_types.specs.Shown.{rules_of};
 ghost use Rattle.object_arena.specs.Graph.{Graph};
 ghost use Rattle.command_names.specs.Standing.{AreOfDeclared, AreThere};
 ghost use Rattle.command_resolve.specs.Standing.{IsResolved};
-ghost use Rattle.compiled_lines.specs.CompiledLines.{IsOfCompiling};
+ghost use Rattle.statement_lines.specs.CompiledLines.{IsOfCompiling};
 ghost use Rattle.sayable_lines.specs.Sayable.{IsSayable};
 ghost use Rattle.session_scopes.specs.SessionState.{IsInStep};
 ghost use Rattle.shell_stage.specs.Asking as asking;
@@ -17,12 +17,12 @@ use base_core::Refusal;
 use class_mapping::Mapping;
 use class_types::Hooks;
 use command_resolve::{Answer, Resolved, resolve};
-use compiled_lines::compile_tables;
 use keeper_core::Keeper;
 use script_types::{Command, Dialect};
 use session_perform::perform;
 use session_scopes::Session;
 use shell_parts::Names;
+use statement_lines::compile_tables;
 use std::alloc::Global;
 
 /// Does what a line asks for.

@@ -3,8 +3,8 @@
 ghost use Rattle.std.specs.Prelude.{◌≡◌, ◌++◌, IfErr, OnOk};
 ghost use Rattle.base_core.specs.Answers.{Gives};
 ghost use Rattle.class_types.specs.Shown.{rules_of};
-ghost use Rattle.compiled_lines.specs.CompiledLines.{IsOfCompiling, compiled_line};
-ghost use Rattle.programs.specs.Alone.{Tells};
+ghost use Rattle.statement_lines.specs.CompiledLines.{IsOfCompiling, compiled_line};
+ghost use Rattle.keeper_core.specs.Alone.{Tells};
 ghost use Rattle.sayable_lines.specs.Sayable.{IsSayable};
 ghost use Rattle.shell_replies.specs.Replies.{error_line};
 ghost use Rattle.shell_stage.specs.Asking.{compiled_at};
@@ -15,11 +15,11 @@ ghost use Rattle.shell_stage.specs.Step as step;
 use base_core::{Refusal, RequestKind};
 use class_mapping::Mapping;
 use class_types::Hooks;
-use compiled_lines::compile_line;
 use script_types::Command;
 use session_scopes::Session;
 use shell_parts::Block;
 use shell_replies::{PrintOptions, Reply, SessionNames, TableNames, put_notes};
+use statement_lines::compile_line;
 use std::alloc::Global;
 use std::mem::{drop, replace};
 
@@ -43,7 +43,7 @@ impl Stage {
     ///
     /// # Errors
     /// `Configured` where that was done, and `ArgumentError` for the first wrong declaration.
-    #[tactic(auto, using(programs::proofs::AloneLemmas::standing, crate::proofs::Stages::opening), unfolding(crate::specs::Step::opened_stage))]
+    #[tactic(auto, using(keeper_core::proofs::AloneLemmas::standing, crate::proofs::Stages::opening), unfolding(crate::specs::Step::opened_stage))]
     pub fn configure(&mut self, alloc: Global) -> Result<(), Refusal>
         ensures { IsStageTurn step.opened_stage self.old result self.new }
     {
@@ -60,7 +60,7 @@ impl Stage {
     ///
     /// # Errors
     /// `Configured` where the session is open; then the declaration's own refusals.
-    #[tactic(auto, using(programs::proofs::AloneLemmas::standing, crate::proofs::Stages::declaring), unfolding(crate::specs::Step::declared_stage))]
+    #[tactic(auto, using(keeper_core::proofs::AloneLemmas::standing, crate::proofs::Stages::declaring), unfolding(crate::specs::Step::declared_stage))]
     pub fn declare(&mut self, hooks: &Hooks, block: Block) -> Result<(), Refusal>
         ensures { IsStageTurn (step.declared_stage (rules_of hooks.now) block)
             self.old result self.new }
@@ -113,7 +113,7 @@ impl Stage {
     ///
     /// # Errors
     /// `NotConfigured` before there is a session; then as those of `compile_line`.
-    #[tactic(auto, using(programs::proofs::AloneLemmas::standing, crate::proofs::Asking::compiling))]
+    #[tactic(auto, using(keeper_core::proofs::AloneLemmas::standing, crate::proofs::Asking::compiling))]
     pub fn compile(&self, alloc: Global, command: &Command) -> Result<Reply, Refusal>
         requires sayable { IsSayable command.now }
         ensures { Tells (λ reply. reply) (compiled_at self.now command.now) result }

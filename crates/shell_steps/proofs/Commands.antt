@@ -6,14 +6,14 @@ use Rattle.base_core.specs.declared.refusal.RequestKind.TheVariants.{NotConfigur
 use Rattle.class_mapping.specs.Mapped.{Mapped}
 use Rattle.class_types.specs.Rules.{Rules}
 use Rattle.object_arena.specs.Graph.{Graph}
-use Rattle.programs.specs.Store.{Store}
-use Rattle.programs.specs.Programs.{Run, ends_early, quiet, refuse}
-use Rattle.programs.specs.Moment.{AsTold, IsCutOff, IsRun, Moment, Outcome, Ran, Runs, Told}
-use Rattle.programs.specs.Beside.{Beside, moment_beside, on_own, told_beside}
-use Rattle.programs.specs.Alone.{alone}
-use Rattle.programs.proofs.AloneLemmas.{alone_lost, alone_ok, beside_alone}
-use Rattle.programs.proofs.Lifting.{chosen, same_beside}
-use Rattle.programs.proofs.Sequence.{refused, then_err, then_ok}
+use Rattle.keeper_core.specs.Store.{Store}
+use Rattle.keeper_core.specs.Programs.{Run, ends_early, quiet, refuse}
+use Rattle.keeper_core.specs.Moment.{AsTold, IsCutOff, IsRun, Moment, Outcome, Ran, Runs, Told}
+use Rattle.keeper_core.specs.Beside.{Beside, moment_beside, on_own, told_beside}
+use Rattle.keeper_core.specs.Alone.{alone}
+use Rattle.keeper_core.proofs.AloneLemmas.{alone_lost, alone_ok, beside_alone}
+use Rattle.keeper_core.proofs.Lifting.{chosen, same_beside}
+use Rattle.keeper_core.proofs.Sequence.{refused, then_err, then_ok}
 use Rattle.script_types.specs.declared.command.Command.{Command}
 use Rattle.script_types.specs.declared.command.Dialect.{Dialect}
 use Rattle.session_parts.specs.Depths.{StaysAt}

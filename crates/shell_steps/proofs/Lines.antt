@@ -3,13 +3,13 @@ use Rattle.std.proofs.Common.{◌≡◌, ℕ, List, [], Result, Ok, Err, IsErrAn
 use Rattle.base_core.specs.declared.refusal.Refusal.{Refusal}
 use Rattle.base_core.specs.declared.refusal.Refusal.TheVariants.{Memory}
 use Rattle.class_types.specs.Rules.{Rules}
-use Rattle.programs.specs.Store.{Store}
-use Rattle.programs.specs.Programs.{Run}
-use Rattle.programs.specs.Moment.{Moment, Runs}
-use Rattle.programs.specs.Alone.{IsQuiet, Tells, alone}
-use Rattle.programs.specs.Beside.{on_own}
-use Rattle.programs.proofs.AloneLemmas.{alone_err, alone_lost, alone_ok, asked_tells, beside_alone, then_own_err, then_own_ok}
-use Rattle.programs.proofs.Sequence.{done}
+use Rattle.keeper_core.specs.Store.{Store}
+use Rattle.keeper_core.specs.Programs.{Run}
+use Rattle.keeper_core.specs.Moment.{Moment, Runs}
+use Rattle.keeper_core.specs.Alone.{IsQuiet, Tells, alone}
+use Rattle.keeper_core.specs.Beside.{on_own}
+use Rattle.keeper_core.proofs.AloneLemmas.{alone_err, alone_lost, alone_ok, asked_tells, beside_alone, then_own_err, then_own_ok}
+use Rattle.keeper_core.proofs.Sequence.{done}
 use Rattle.script_types.specs.declared.command.Command.{Command}
 use Rattle.shell_lines.specs.declared.desk.Said.{Said}
 use Rattle.shell_lines.specs.declared.desk.Said.TheVariants as said

@@ -4,15 +4,15 @@ use Rattle.base_core.specs.declared.refusal.Refusal.{Refusal}
 use Rattle.base_core.specs.declared.refusal.Refusal.TheVariants.{Memory, ScriptError}
 use Rattle.class_mapping.specs.Mapped.{Mapped}
 use Rattle.class_types.specs.Rules.{Rules}
-use Rattle.programs.specs.Store.{Store}
-use Rattle.programs.specs.Programs.{ask, ends_early, give, quiet}
-use Rattle.programs.specs.Moment.{Moment, Ran, Runs}
-use Rattle.programs.specs.Beside.{by_own, moment_answering, moment_beside, on_own}
-use Rattle.programs.specs.Alone.{alone}
-use Rattle.programs.proofs.AloneLemmas.{alone_ok, alone_same, answering_alone, asked_ok, change_ok, lost_alone}
-use Rattle.programs.proofs.Lifting.{same_beside}
-use Rattle.programs.proofs.Recovering.{answering_ends, caught_early, caught_ok, caught_refused}
-use Rattle.programs.proofs.Sequence.{done as given, then_err, then_ok}
+use Rattle.keeper_core.specs.Store.{Store}
+use Rattle.keeper_core.specs.Programs.{ask, ends_early, give, quiet}
+use Rattle.keeper_core.specs.Moment.{Moment, Ran, Runs}
+use Rattle.keeper_core.specs.Beside.{by_own, moment_answering, moment_beside, on_own}
+use Rattle.keeper_core.specs.Alone.{alone}
+use Rattle.keeper_core.proofs.AloneLemmas.{alone_ok, alone_same, answering_alone, asked_ok, change_ok, lost_alone}
+use Rattle.keeper_core.proofs.Lifting.{same_beside}
+use Rattle.keeper_core.proofs.Recovering.{answering_ends, caught_early, caught_ok, caught_refused}
+use Rattle.keeper_core.proofs.Sequence.{done as given, then_err, then_ok}
 use Rattle.savepoints.specs.declared.scope.Scope.{Scope}
 use Rattle.session_scopes.specs.SessionState.{SessionState}
 use Rattle.session_calls.specs.Calling.{IsSessionCall}

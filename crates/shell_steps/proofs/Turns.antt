@@ -2,13 +2,13 @@
 use Rattle.std.proofs.Common.{◌≡◌, ℕ, List, [], Result, Ok, Err, IsErrAnd, refl, sym, ap, ◌∙◌, subst}
 use Rattle.base_core.specs.declared.refusal.Refusal.{Refusal}
 use Rattle.base_core.specs.declared.refusal.Refusal.TheVariants.{Memory}
-use Rattle.programs.specs.Store.{Store}
-use Rattle.programs.specs.Programs.{give}
-use Rattle.programs.specs.Moment.{Moment, Runs}
-use Rattle.programs.specs.Beside.{moment_beside, on_own}
-use Rattle.programs.specs.Alone.{Turned, Turns, alone}
-use Rattle.programs.proofs.AloneLemmas.{alone_lost, beside_alone, becomes_err, becomes_ok}
-use Rattle.programs.proofs.Sequence.{done, then_err, then_ok}
+use Rattle.keeper_core.specs.Store.{Store}
+use Rattle.keeper_core.specs.Programs.{give}
+use Rattle.keeper_core.specs.Moment.{Moment, Runs}
+use Rattle.keeper_core.specs.Beside.{moment_beside, on_own}
+use Rattle.keeper_core.specs.Alone.{Turned, Turns, alone}
+use Rattle.keeper_core.proofs.AloneLemmas.{alone_lost, beside_alone, becomes_err, becomes_ok}
+use Rattle.keeper_core.proofs.Sequence.{done, then_err, then_ok}
 use Rattle.shell_stage.specs.declared.stage.Stage.{Stage}
 use Rattle.shell_stage.specs.Calls.{IsStageTurn}
 use Rattle.shell_stage.specs.Stages.{IsReady}

@@ -1,11 +1,11 @@
 -- What a call of the shell did, and what it kept: the contract of every step of a line.
 use Rattle.std.specs.Prelude.{◌≡◌, Result}
 use Rattle.base_core.specs.declared.refusal.Refusal.{Refusal}
-use Rattle.programs.specs.Alone.{alone}
-use Rattle.programs.specs.Beside.{moment_beside}
-use Rattle.programs.specs.Moment.{Moment, Runs}
-use Rattle.programs.specs.Programs.{Run}
-use Rattle.programs.specs.Store.{Store}
+use Rattle.keeper_core.specs.Alone.{alone}
+use Rattle.keeper_core.specs.Beside.{moment_beside}
+use Rattle.keeper_core.specs.Moment.{Moment, Runs}
+use Rattle.keeper_core.specs.Programs.{Run}
+use Rattle.keeper_core.specs.Store.{Store}
 use Rattle.shell_steps.specs.ShellState.{ShellState, StaysReady}
 use Rattle.shell_steps.specs.Step.{World}
 

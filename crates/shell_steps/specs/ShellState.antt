@@ -2,8 +2,8 @@
 use Rattle.std.specs.Prelude.{◌≡◌, false, [], Result, Ok, Err}
 use Rattle.base_core.specs.declared.refusal.Refusal.{Refusal}
 use Rattle.class_mapping.specs.Mapped.{Mapped}
-use Rattle.programs.specs.Programs.{ends_early}
-use Rattle.programs.specs.Moment.{Moment}
+use Rattle.keeper_core.specs.Programs.{ends_early}
+use Rattle.keeper_core.specs.Moment.{Moment}
 use Rattle.command_names.specs.Terms.{Bindings}
 use Rattle.shell_lines.specs.Desk.{DeskState, new_desk}
 use Rattle.shell_replies.specs.declared.notes.PrintOptions.{PrintOptions}

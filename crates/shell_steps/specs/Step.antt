@@ -6,8 +6,8 @@ use Rattle.base_core.specs.declared.refusal.Refusal.TheVariants.{InvalidRequestE
 use Rattle.class_types.specs.Rules.{Rules}
 use Rattle.script_types.specs.declared.command.Command.{Command}
 use Rattle.shell_parts.specs.declared.block.Block.{Block}
-use Rattle.programs.specs.Programs.{Run, ◌>>=◌, ask, becomes, change, give, handle_refusal, quiet}
-use Rattle.programs.specs.Beside.{Beside, by_own, on_own}
+use Rattle.keeper_core.specs.Programs.{Run, ◌>>=◌, ask, becomes, change, give, handle_refusal, quiet}
+use Rattle.keeper_core.specs.Beside.{Beside, by_own, on_own}
 use Rattle.session_scopes.specs.SessionState.{SessionState}
 use Rattle.session_calls.specs.Steps as session
 use Rattle.command_resolve.specs.declared.answer.Answer.{Answer}

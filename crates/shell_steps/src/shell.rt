@@ -2,10 +2,10 @@
 
 ghost use Rattle.std.specs.Prelude.{◌≡◌, ◌++◌, true, IfErr, IfOk, OnOk};
 ghost use Rattle.class_types.specs.Shown.{rules_of};
-ghost use Rattle.programs.specs.Alone.{alone};
-ghost use Rattle.programs.specs.Programs.{ends_early};
-ghost use Rattle.programs.specs.Moment.{Runs};
-ghost use Rattle.programs.specs.Beside.{moment_answering, on_own};
+ghost use Rattle.keeper_core.specs.Alone.{alone};
+ghost use Rattle.keeper_core.specs.Programs.{ends_early};
+ghost use Rattle.keeper_core.specs.Moment.{Runs};
+ghost use Rattle.keeper_core.specs.Beside.{moment_answering, on_own};
 ghost use Rattle.sayable_lines.specs.Sayable.{IsSayable};
 ghost use Rattle.shell_lines.specs.Desk.{CanBeDone, said_line};
 ghost use Rattle.shell_stage.specs.Stages.{IsAnswerAt, IsKept, IsReady};
@@ -341,7 +341,7 @@ impl Shell {
     }
 
     /// The script has ended: a block that is open is refused at its first line. The only refusal is `Memory`.
-    #[tactic(auto, using(programs::proofs::AloneLemmas::answering_alone), unfolding(crate::specs::Step::end_reply))]
+    #[tactic(auto, using(keeper_core::proofs::AloneLemmas::answering_alone), unfolding(crate::specs::Step::end_reply))]
     pub fn answer_end<K: Keeper>(&mut self, keeper: &K) -> Result<Reply, Refusal>
         ensures step { Runs (moment_answering K.moment)
             (λ reply. reply) step.end_reply (self.old, keeper.now) result (self.new, keeper.now) }

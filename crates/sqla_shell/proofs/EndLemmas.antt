@@ -4,18 +4,18 @@ use Rattle.std.specs.Prelude.{◌⊎◌}
 use Rattle.schema_core.specs.Tables.{Tables}
 use Rattle.base_core.specs.declared.refusal.Refusal.{Refusal}
 use Rattle.class_types.specs.Rules.{Rules}
-use Rattle.programs.specs.declared.sent.Sent.TheVariants.{Rollback}
+use Rattle.keeper_core.specs.declared.sent.Sent.TheVariants.{Rollback}
 use Rattle.keeper_core.specs.declared.keeper.KeeperStop.{KeeperStop}
 use Rattle.keeper_core.specs.declared.keeper.KeeperStop.TheVariants as stops
-use Rattle.programs.specs.Store.{Store, committed_of, outermost}
-use Rattle.programs.specs.Programs.{Event, Log, Run, Sends, after_events, as_refusal, ends_early}
-use Rattle.programs.specs.Beside.{Beside}
+use Rattle.keeper_core.specs.Store.{Store, committed_of, outermost}
+use Rattle.keeper_core.specs.Programs.{Event, Log, Run, Sends, after_events, as_refusal, ends_early}
+use Rattle.keeper_core.specs.Beside.{Beside}
 use Rattle.keeper_core.specs.Calls as call
 use Rattle.keeper_core.specs.Calls.{sends, stop_refusal as keeper_refusal}
-use Rattle.programs.specs.Moment.{AsTold, IsCutOff, Moment, Outcome, Runs, Told, parts}
+use Rattle.keeper_core.specs.Moment.{AsTold, IsCutOff, Moment, Outcome, Runs, Told, parts}
 use Rattle.keeper_core.specs.Keeping.{IsCoherent, IsCoherentTold, IsRollback, depth_left}
-use Rattle.programs.proofs.Counts.{faults_rise}
-use Rattle.programs.proofs.Sequence.{after_append, done, then_err, then_ok}
+use Rattle.keeper_core.proofs.Counts.{faults_rise}
+use Rattle.keeper_core.proofs.Sequence.{after_append, done, then_err, then_ok}
 use Rattle.shell_replies.specs.declared.notes.PrintOptions.{PrintOptions}
 use Rattle.shell_steps.specs.ShellState.{ShellState, new_shell}
 use Rattle.sqla_shell.specs.declared.ending.Ending.{Ending}
@@ -26,7 +26,7 @@ use Rattle.sqla_shell.specs.declared.stop.Stop.{Stop}
 use Rattle.sqla_shell.specs.declared.stop.Stop.TheVariants as stopped
 use Rattle.sqla_shell.specs.Causes.{CountsFaults, ShowsFaults, done_status, faults, stop_refusal}
 use Rattle.sqla_shell.specs.Outcome.{Rests, Concludes, DoesLines, DoesScript, Ends, HasNothingLeft, IsDoneOf, IsReadThrough, IsRolledBack, IsSettled, IsStopped, IsWhole, IsUndone, IsUsage, ending_of, first_log, log_with, moment_writing, told_writing}
-use Rattle.script_lines.specs.Scripts.{lines_of}
+use Rattle.byte_streams.specs.Scripts.{lines_of}
 use Rattle.sqla_shell.specs.Reference.{end_unless_too_long, end_script, reference, script}
 
 -- ---- the end of the lines, and then what the end asks for

@@ -4,13 +4,13 @@ use Rattle.std.specs.Result.{IsErrOf}
 use Rattle.base_core.specs.Counts.{Rose}
 use Rattle.base_core.specs.declared.refusal.Refusal.{Refusal}
 use Rattle.base_core.specs.declared.refusal.Refusal.TheVariants.{KeeperFault, Memory}
-use Rattle.programs.specs.Programs.{ends_early}
-use Rattle.programs.specs.Moment.{Acted, Acts, Moment}
-use Rattle.programs.specs.Store.{Store}
+use Rattle.keeper_core.specs.Programs.{ends_early}
+use Rattle.keeper_core.specs.Moment.{Acted, Acts, Moment}
+use Rattle.keeper_core.specs.Store.{Store}
 use Rattle.byte_streams.specs.declared.streams.SinkStop.{SinkStop}
 use Rattle.byte_streams.specs.declared.streams.SinkStop.TheVariants as sink
-use Rattle.script_lines.specs.declared.lines.ReadStop.{ReadStop}
-use Rattle.script_lines.specs.declared.lines.ReadStop.TheVariants as read
+use Rattle.byte_streams.specs.declared.lines.ReadStop.{ReadStop}
+use Rattle.byte_streams.specs.declared.lines.ReadStop.TheVariants as read
 use Rattle.sqla_shell.specs.declared.stop.Stop.{Stop}
 use Rattle.sqla_shell.specs.declared.stop.Stop.TheVariants as stopped
 use Rattle.sqla_shell.specs.Causes.{CountsFaults, Faults, faults, keeper_stop, read_stop, write_stop}

@@ -7,22 +7,22 @@ use Rattle.std.specs.Io.KnownBytes.{prepend_known}
 use Rattle.base_core.specs.declared.refusal.Refusal.{Refusal}
 use Rattle.base_core.specs.declared.refusal.Refusal.TheVariants.{Memory}
 use Rattle.class_types.specs.Rules.{Rules}
-use Rattle.programs.specs.Programs.{each, as_refusal}
-use Rattle.programs.specs.Beside.{Beside}
-use Rattle.programs.specs.Moment.{Moment, Reaches, Runs}
-use Rattle.programs.proofs.Sequence.{each_end, each_err, each_turn, no_memory, reaches_end, reaches_start}
-use Rattle.script_lines.specs.declared.lines.NextLine.{NextLine}
-use Rattle.script_lines.specs.declared.lines.NextLine.TheVariants as next
-use Rattle.script_lines.specs.declared.lines.ReadStop.{ReadStop}
-use Rattle.script_lines.specs.declared.lines.ReadStop.TheVariants as read
-use Rattle.script_lines.specs.Cutting.{Cut, Ended, TooLong, Line, IsNext, IsNextOf, next_cut, has_newline, last_line, line_width, most_bytes, passes_limit, whole_line}
+use Rattle.keeper_core.specs.Programs.{each, as_refusal}
+use Rattle.keeper_core.specs.Beside.{Beside}
+use Rattle.keeper_core.specs.Moment.{Moment, Reaches, Runs}
+use Rattle.keeper_core.proofs.Sequence.{each_end, each_err, each_turn, no_memory, reaches_end, reaches_start}
+use Rattle.byte_streams.specs.declared.lines.NextLine.{NextLine}
+use Rattle.byte_streams.specs.declared.lines.NextLine.TheVariants as next
+use Rattle.byte_streams.specs.declared.lines.ReadStop.{ReadStop}
+use Rattle.byte_streams.specs.declared.lines.ReadStop.TheVariants as read
+use Rattle.byte_streams.specs.Cutting.{Cut, Ended, TooLong, Line, IsNext, IsNextOf, next_cut, has_newline, last_line, line_width, most_bytes, passes_limit, whole_line}
 use Rattle.shell_steps.specs.ShellState.{ShellState}
 use Rattle.sqla_shell.specs.declared.ending.Ending.{Ending}
 use Rattle.sqla_shell.specs.declared.ending.Ending.TheVariants as ending
 use Rattle.sqla_shell.specs.declared.stop.Stop.{Stop}
 use Rattle.sqla_shell.specs.Causes.{read_stop, stop_refusal}
 use Rattle.sqla_shell.specs.Outcome.{DoesLines, HasNothingLeft, ending_of}
-use Rattle.script_lines.specs.Scripts.{Lines, lines_by, lines_from, lines_of}
+use Rattle.byte_streams.specs.Scripts.{Lines, lines_by, lines_from, lines_of}
 use Rattle.sqla_shell.specs.Reference.{do_and_reply}
 
 -- so many lines were done, and what is left of the bytes has the lines behind them

@@ -2,9 +2,9 @@
 use Rattle.std.proofs.Common.{◌≡◌, Option, Some, inr, refl, ap, ◌∙◌, subst}
 use Rattle.class_types.specs.Rules.{Rules}
 use Rattle.program_words.specs.declared.options.Options.{Options}
-use Rattle.programs.specs.Moment.{Moment}
-use Rattle.programs.specs.Store.{Store}
-use Rattle.programs.specs.declared.target.Target.TheVariants as targets
+use Rattle.keeper_core.specs.Moment.{Moment}
+use Rattle.keeper_core.specs.Store.{Store}
+use Rattle.keeper_core.specs.declared.target.Target.TheVariants as targets
 use Rattle.sqla_shell.specs.Outcome.{IsReference}
 use Rattle.sqla_shell.specs.Seen.{Seen}
 use Rattle.sqla_shell.specs.Words.{IsGiven, IsRun, print_options}

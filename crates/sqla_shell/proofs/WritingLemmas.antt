@@ -5,13 +5,13 @@ use Rattle.std.proofs.lemmas.List.{length-drop, map-append, take-append-drop, ta
 use Rattle.std.specs.Io.KnownBytes.{Appends, Keeps}
 use Rattle.base_core.specs.declared.refusal.Refusal.{Refusal}
 use Rattle.base_core.specs.declared.refusal.Refusal.TheVariants.{KeeperFault, Memory}
-use Rattle.programs.specs.Store.{Store}
-use Rattle.programs.proofs.Counts.{keeps_answer, keeps_memory}
-use Rattle.programs.proofs.Sequence.{then_err}
-use Rattle.programs.specs.Programs.{◌>>=◌, Event, Sends, Writes, Log, Run, after_event, after_events, ends_early, as_refusal}
-use Rattle.programs.specs.Moment.{Told, Moment, IsRun, IsCutOff, AsTold, Runs, Ran}
+use Rattle.keeper_core.specs.Store.{Store}
+use Rattle.keeper_core.proofs.Counts.{keeps_answer, keeps_memory}
+use Rattle.keeper_core.proofs.Sequence.{then_err}
+use Rattle.keeper_core.specs.Programs.{◌>>=◌, Event, Sends, Writes, Log, Run, after_event, after_events, ends_early, as_refusal}
+use Rattle.keeper_core.specs.Moment.{Told, Moment, IsRun, IsCutOff, AsTold, Runs, Ran}
 use Rattle.keeper_core.specs.Keeping.{IsCoherent}
-use Rattle.programs.specs.Beside.{Beside, told_beside, moment_answering}
+use Rattle.keeper_core.specs.Beside.{Beside, told_beside, moment_answering}
 use Rattle.shell_steps.specs.ShellState.{ShellState}
 use Rattle.sqla_shell.specs.Causes.{CountsFaults, CountsStop, faults, keeper_stop, stop_refusal}
 use Rattle.sqla_shell.specs.Outcome.{HasWritten, log_with, moment_writing, told_writing}

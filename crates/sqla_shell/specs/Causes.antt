@@ -5,8 +5,8 @@ use Rattle.base_core.specs.declared.refusal.Refusal.{Refusal}
 use Rattle.base_core.specs.declared.refusal.Refusal.TheVariants.{KeeperFault, Memory as NoMemory}
 use Rattle.byte_streams.specs.declared.streams.SinkStop.{SinkStop}
 use Rattle.byte_streams.specs.declared.streams.SinkStop.TheVariants as sink
-use Rattle.script_lines.specs.declared.lines.ReadStop.{ReadStop}
-use Rattle.script_lines.specs.declared.lines.ReadStop.TheVariants as read
+use Rattle.byte_streams.specs.declared.lines.ReadStop.{ReadStop}
+use Rattle.byte_streams.specs.declared.lines.ReadStop.TheVariants as read
 use Rattle.sqla_shell.specs.declared.status.Status.{Status}
 use Rattle.sqla_shell.specs.declared.status.Status.TheVariants as status
 use Rattle.sqla_shell.specs.declared.stop.Stop.{Stop}

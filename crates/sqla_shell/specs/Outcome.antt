@@ -2,12 +2,12 @@
 use Rattle.std.specs.Prelude.{◌≡◌, ◌≤◌, ℕ, Bool, true, false, List, [], ◌∷◌, ◌++◌, take, codes, Option, None, Some, Result, Ok, Err, IfOk, ◌⊎◌}
 use Rattle.base_core.specs.declared.refusal.Refusal.{Refusal}
 use Rattle.class_types.specs.Rules.{Rules}
-use Rattle.programs.specs.declared.sent.Sent.TheVariants.{Rollback}
-use Rattle.programs.specs.Store.{Store}
-use Rattle.programs.specs.Programs.{Event, Log, Run, Sends, after_events, each}
-use Rattle.programs.specs.Moment.{Moment, Told, Runs}
+use Rattle.keeper_core.specs.declared.sent.Sent.TheVariants.{Rollback}
+use Rattle.keeper_core.specs.Store.{Store}
+use Rattle.keeper_core.specs.Programs.{Event, Log, Run, Sends, after_events, each}
+use Rattle.keeper_core.specs.Moment.{Moment, Told, Runs}
 use Rattle.keeper_core.specs.Keeping.{new_store}
-use Rattle.programs.specs.Beside.{Beside}
+use Rattle.keeper_core.specs.Beside.{Beside}
 use Rattle.shell_replies.specs.declared.notes.PrintOptions.{PrintOptions}
 use Rattle.shell_steps.specs.ShellState.{ShellState}
 use Rattle.sqla_shell.specs.declared.ending.Ending.{Ending}
@@ -17,7 +17,7 @@ use Rattle.sqla_shell.specs.declared.status.Status.{Status}
 use Rattle.sqla_shell.specs.declared.status.Status.TheVariants as status
 use Rattle.sqla_shell.specs.Seen.{KeepsKeeper, Seen}
 use Rattle.sqla_shell.specs.Causes.{done_status, stop_status}
-use Rattle.script_lines.specs.Scripts.{lines_of}
+use Rattle.byte_streams.specs.Scripts.{lines_of}
 use Rattle.sqla_shell.specs.Reference.{do_and_reply, reference, script}
 
 -- ---- what is seen of a shell, a keeper and a sink

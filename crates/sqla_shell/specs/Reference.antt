@@ -1,9 +1,9 @@
 -- The reference run: what the bytes of a script do, line by line, and what goes out.
 use Rattle.std.specs.Prelude.{ℕ, Bool, true, false, List, [], map, Ok}
 use Rattle.class_types.specs.Rules.{Rules}
-use Rattle.programs.specs.Programs.{Run, Writes, ◌>>=◌, give, each}
-use Rattle.programs.specs.Beside.{Beside}
-use Rattle.script_lines.specs.Scripts.{lines_of}
+use Rattle.keeper_core.specs.Programs.{Run, Writes, ◌>>=◌, give, each}
+use Rattle.keeper_core.specs.Beside.{Beside}
+use Rattle.byte_streams.specs.Scripts.{lines_of}
 use Rattle.shell_replies.specs.declared.notes.PrintOptions.{PrintOptions}
 use Rattle.shell_steps.specs.ShellState.{ShellState, new_shell}
 use Rattle.shell_steps.specs.Step.{reply_to, end_reply, close_session}

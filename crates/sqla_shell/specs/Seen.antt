@@ -1,7 +1,7 @@
 -- What is seen of a source, a sink and a keeper, and what a call keeps of it.
 use Rattle.std.specs.Prelude.{◌≡◌, ℕ, List, Option, Result}
-use Rattle.programs.specs.Moment.{Moment}
-use Rattle.programs.specs.Store.{Store}
+use Rattle.keeper_core.specs.Moment.{Moment}
+use Rattle.keeper_core.specs.Store.{Store}
 use Rattle.sqla_shell.specs.declared.stop.Stop.{Stop}
 use Rattle.sqla_shell.specs.Causes.{CountsFaults, Faults}
 

@@ -4,9 +4,9 @@ use Rattle.class_types.specs.Rules.{Rules}
 use Rattle.keeper_core.specs.declared.keeper.KeeperStop.{KeeperStop}
 use Rattle.keeper_core.specs.declared.keeper.KeeperStop.TheVariants as stops
 use Rattle.program_words.specs.declared.options.Options.{Options}
-use Rattle.programs.specs.Moment.{Moment}
-use Rattle.programs.specs.Store.{Store}
-use Rattle.programs.specs.declared.target.Target.{Target}
+use Rattle.keeper_core.specs.Moment.{Moment}
+use Rattle.keeper_core.specs.Store.{Store}
+use Rattle.keeper_core.specs.declared.target.Target.{Target}
 use Rattle.shell_replies.specs.declared.notes.PrintOptions.{PrintOptions}
 use Rattle.sqla_shell.specs.Outcome.{IsReference}
 use Rattle.sqla_shell.specs.Seen.{Seen}

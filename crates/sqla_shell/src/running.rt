@@ -4,7 +4,7 @@ ghost use Rattle.std.specs.Prelude.{◌≡◌, ◌≢◌, ◌≤◌, ℕ, Bool, 
 ghost use Rattle.class_types.specs.Shown.{rules_of};
 ghost use Rattle.keeper_core.specs.Keeping.{new_store};
 ghost use Rattle.program_words.specs.Asked.{options_asked};
-ghost use Rattle.programs.specs.declared.target.Target.TheVariants as targets;
+ghost use Rattle.keeper_core.specs.declared.target.Target.TheVariants as targets;
 ghost use Rattle.sqla_shell.specs.Causes.{CountsFaults, ShowsFaults, done_status, faults, stop_status};
 ghost use Rattle.sqla_shell.specs.Outcome.{Concludes, IsDone, IsReadThrough, IsReference, IsRolledBack, IsUsage, Rests};
 ghost use Rattle.sqla_shell.specs.Seen.{KeepsKeeper, moment_seen};

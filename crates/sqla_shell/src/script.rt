@@ -2,9 +2,9 @@
 
 ghost use Rattle.std.specs.Prelude.{◌≡◌, [], None, true, false, IfOk, OnOk};
 ghost use Rattle.class_types.specs.Shown.{rules_of};
-ghost use Rattle.programs.specs.Programs.{as_refusal};
-ghost use Rattle.programs.specs.Moment.{Runs};
-ghost use Rattle.script_lines.specs.Cutting.{FitsSource, Pending, to_come};
+ghost use Rattle.keeper_core.specs.Programs.{as_refusal};
+ghost use Rattle.keeper_core.specs.Moment.{Runs};
+ghost use Rattle.byte_streams.specs.Cutting.{FitsSource, Pending, to_come};
 ghost use Rattle.shell_stage.specs.Stages.{IsReady};
 ghost use Rattle.sqla_shell.specs.Causes.{CountsFaults, faults, stop_refusal};
 ghost use Rattle.sqla_shell.specs.Outcome.{DoesLines, DoesScript, HasNothingLeft, HasWritten, moment_writing};
@@ -13,10 +13,9 @@ ghost use Rattle.sqla_shell.specs.Seen.{Keeps, moment_seen};
 
 use crate::ending::Ending;
 use crate::stop::Stop;
-use byte_streams::{Sink, Source};
+use byte_streams::{LineBuffer, NextLine, Sink, Source};
 use class_types::Hooks;
 use keeper_core::Keeper;
-use script_lines::{LineBuffer, NextLine};
 use shell_steps::Shell;
 use std::alloc::Global;
 

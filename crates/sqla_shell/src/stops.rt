@@ -5,8 +5,7 @@ ghost use Rattle.sqla_shell.specs.Causes.{keeper_stop, read_stop, write_stop};
 
 use crate::stop::Stop;
 use base_core::Refusal;
-use byte_streams::SinkStop;
-use script_lines::ReadStop;
+use byte_streams::{ReadStop, SinkStop};
 
 impl From<ReadStop> for Stop {
     ghost from_gives = { λ stop own. own ≡ read_stop stop };

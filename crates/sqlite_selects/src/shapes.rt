@@ -167,7 +167,10 @@ pub fn answers(
 }
 
 /// The kinds of the items.
-pub fn kinds_of(alloc: Global, shapes: &[ItemShape]) -> Result<Vec<Kind>, AllocError> {
+#[tactic(auto, using(crate::proofs::Items::map_more))]
+pub fn kinds_of(alloc: Global, shapes: &[ItemShape]) -> Result<Vec<Kind>, AllocError>
+    ensures { IfOk result (λ kinds. kinds.items ≡ map (λ shape. shape.kind) shapes.now) }
+{
     let mut kinds = Vec::with_capacity(alloc, shapes.len())?;
     for item in shapes {
         kinds.push(item.kind)?;

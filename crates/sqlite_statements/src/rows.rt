@@ -10,7 +10,7 @@ ghost use Rattle.sqlite_statements.specs.Endings.{IfRefused, IsKeyFor};
 use crate::sending::run_statement;
 use base_core::{ColumnNo, Copied, Key, KeyList, ListOf, RowList, RowValues, TableId, Value};
 use expr_types::Statement;
-use row_cells::{key_of, lacks_given, with_key};
+use row_judging::{key_of, lacks_given, with_key};
 use schema_core::{
     ColumnSpec, RowStmt, Schema, TableSpec, Violation, has_generated_key, is_required,
 };

@@ -1,9 +1,9 @@
 //! Statements sent with their values.
 
-use dialects::sqlite::compile;
 use expr_types::Statement;
 use schema_core::Schema;
 use sql_statements::has_cuts;
+use sql_statements::sqlite::compile;
 use sql_text::Compiled;
 use sqlite_database::{Database, Ending};
 use sqlite_items::Boxed;

@@ -6,8 +6,8 @@ ghost use Rattle.keeper_core.specs.Keeping.{AreRowsOf};
 
 use crate::asking::{ask_compiled, counts_some, finished, put_words_and_name, run_text};
 use base_core::{Kind, Name, Refusal, RowList, TableId, Text, Value};
-use dialects::sqlite::{ddl, drop_text};
 use schema_core::{ColumnSpec, Schema, TableSpec, kind_of};
+use sql_statements::sqlite::{ddl, drop_text};
 use sql_text::{Compiled, Quoting, Writer};
 use sqlite_database::{Database, Ending};
 use sqlite_selects::legal_rows;

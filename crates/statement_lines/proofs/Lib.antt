@@ -1,2 +1,5 @@
+pub mod Compiling
 pub mod Cuts
+pub mod Declared
 mod Marks
+pub mod Numbers

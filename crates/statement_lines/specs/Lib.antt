@@ -1,1 +1,4 @@
+pub mod CompiledLines
+pub mod Echo
+pub mod Later
 pub mod StatementLines

@@ -108,7 +108,7 @@ impl<'a> fmt::Display for ValuesText<'a> {
 /// Writes a statement's text, and where it has marks their values in a second line behind `par>`. PostgreSQL's marks have names,
 /// which are written before the values.
 #[derive(Drop)]
-pub struct StatementText<'a> {
+pub(crate) struct StatementText<'a> {
     pub quoting: Quoting,
     pub compiled: &'a Compiled,
 }

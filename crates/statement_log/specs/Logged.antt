@@ -1,9 +1,9 @@
 -- The statements that a keeper was sent, with those that start and end its scopes.
 use Rattle.std.specs.Prelude.{ℕ, Bool, false, zero, suc, List, [], ◌∷◌, ◌++◌, Option, None, Some}
 use Rattle.base_core.specs.declared.refusal.Refusal.{Refusal}
-use Rattle.programs.specs.declared.sent.Sent.{Sent}
-use Rattle.programs.specs.declared.sent.Sent.TheVariants.{Begin, Savepoint}
-use Rattle.programs.specs.Moment.{Refused}
+use Rattle.keeper_core.specs.declared.sent.Sent.{Sent}
+use Rattle.keeper_core.specs.declared.sent.Sent.TheVariants.{Begin, Savepoint}
+use Rattle.keeper_core.specs.Moment.{Refused}
 
 -- the statements, the last one that was refused, how many scopes are open, and whether there is room for one statement more
 pub record Logged : Type 0 where

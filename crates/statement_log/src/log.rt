@@ -3,15 +3,14 @@
 ghost use Rattle.std.specs.Prelude.{◌≡◌, ◌+◌, ◌-◌, ◌<◌, [], true, false, IfOk, OnErr, OnOk};
 ghost use Rattle.schema_core.specs.Apply.{table_of};
 ghost use Rattle.sql_semantics.specs.Applied as bulk;
-ghost use Rattle.programs.specs.declared.sent.Sent.TheVariants as sent;
+ghost use Rattle.keeper_core.specs.declared.sent.Sent.TheVariants as sent;
 ghost use Rattle.keeper_core.specs.Calls.{query_refusal, write_refusal};
 ghost use Rattle.statement_log.specs.Logged.{no_statements, start_of, with_refused, with_sent};
 
 use base_core::{Copied, Refusal, TableId};
 use expr_types::{Bulk, CopiedIn, Select};
 use keeper_core::calls::{refusal_of, refusal_of_query, table_of_bulk};
-use keeper_core::{QueryRefusal, WriteRefusal};
-use programs::Sent;
+use keeper_core::{QueryRefusal, Sent, WriteRefusal};
 use schema_core::RowStmt;
 use sqlite_items::Boxed;
 use std::alloc::{AllocError, Global};

@@ -1,2 +1,4 @@
+pub mod Legality
 pub mod OneByOne
+pub mod Savepoints
 pub mod Worked

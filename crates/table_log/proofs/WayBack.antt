@@ -5,7 +5,7 @@ use Rattle.std.proofs.Math.Seq.{take-suc}
 use Rattle.base_core.proofs.Lists.{every_append}
 use Rattle.base_core.specs.declared.ids.TableId.{TableId}
 use Rattle.base_core.specs.declared.value.Value.{Value}
-use Rattle.programs.specs.Store.{Store, outermost}
+use Rattle.keeper_core.specs.Store.{Store, outermost}
 use Rattle.schema_core.specs.Tables.{Tables, row_under, rows_in, with_row, with_rows, without_row}
 use Rattle.table_rows.specs.Rows.{AreSorted, Held, IsPlaced, KeepsAllPlaces, with_former_row, rows_at}
 use Rattle.table_rows.proofs.Laws.{none_taken, put_undone, taking_undone}

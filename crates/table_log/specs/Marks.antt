@@ -2,7 +2,7 @@
 use Rattle.std.specs.Prelude.{◌≡◌, ℕ, ◌-◌, ◌<◌, List, [], ◌∷◌, ◌++◌, length, take, slice_index_or, Option, None, Some, Result, Ok, Err}
 use Rattle.base_core.specs.declared.value.Value.{Value}
 use Rattle.schema_core.specs.Tables.{Tables}
-use Rattle.programs.specs.Store.{Store}
+use Rattle.keeper_core.specs.Store.{Store}
 use Rattle.table_log.specs.declared.undoing.LogEntry.{LogEntry}
 
 -- what was replaced since the outermost scope started, the oldest first, and each scope's first place in it, the outermost scope's first

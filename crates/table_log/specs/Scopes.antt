@@ -1,7 +1,7 @@
 -- What a change of the tables, and the start and the end of a scope, make of tables with scopes.
 use Rattle.std.specs.Prelude.{◌∷◌, drop, slice_index_or}
 use Rattle.schema_core.specs.Tables.{Tables}
-use Rattle.programs.specs.Store.{Store}
+use Rattle.keeper_core.specs.Store.{Store}
 
 -- other tables in the same scopes
 abbrev pub with_tables : Store → Tables → Store

@@ -2,7 +2,7 @@
 use Rattle.std.specs.Prelude.{◌≡◌, ◌≤◌, ℕ, List, [], ◌∷◌, ◌++◌, map, drop, length, reverse}
 use Rattle.std.specs.List.{AllByRecursion}
 use Rattle.schema_core.specs.Tables.{Tables, with_rows}
-use Rattle.programs.specs.Store.{Store}
+use Rattle.keeper_core.specs.Store.{Store}
 use Rattle.table_rows.specs.Rows.{Held, IsPlaced, with_former_row, rows_at}
 use Rattle.table_log.specs.Marks.{Marked, Marks}
 use Rattle.table_log.specs.declared.undoing.LogEntry.{LogEntry}

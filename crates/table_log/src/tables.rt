@@ -2,7 +2,7 @@
 
 ghost use Rattle.std.specs.Prelude.{◌≡◌, ◌-◌, ◌<◌, [], true, is_some, length, drop, slice_index_or, OnOk, OnErr};
 ghost use Rattle.std.specs.Option.{option_copied, option_map};
-ghost use Rattle.programs.specs.Store.{committed_of, with_empty_table, without_table};
+ghost use Rattle.keeper_core.specs.Store.{committed_of, with_empty_table, without_table};
 ghost use Rattle.schema_core.specs.Tables.{is_created, row_under, rows_in, with_row, with_rows, without_row};
 ghost use Rattle.table_log.specs.Marks.{Notes, last_cut, log_cut, no_marks, place_added, place_dropped, rows_there, unscoped};
 ghost use Rattle.table_log.specs.Scopes.{scope_ended, scope_started, scope_undone, with_tables};

@@ -1,5 +1,6 @@
-pub mod Entries
+pub mod Bare
 mod Bounds
+pub mod Entries
 mod IndexSteps
 pub mod Laws
 mod Places

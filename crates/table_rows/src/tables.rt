@@ -2,7 +2,7 @@
 
 ghost use Rattle.std.specs.Prelude.{◌≡◌, [], true, is_some, IfOk, IfSome, OnOk, OnErr};
 ghost use Rattle.std.specs.Option.{option_copied, option_map};
-ghost use Rattle.programs.specs.Store.{with_empty_table, without_table};
+ghost use Rattle.keeper_core.specs.Store.{with_empty_table, without_table};
 ghost use Rattle.schema_core.specs.Tables.{rows_in, row_under, with_row, with_rows, without_row};
 ghost use Rattle.table_rows.specs.Rows.{AreSorted, IsPlaced, KeepsAllPlaces, rows_present, with_former_row, rows_at, tables_present};
 

@@ -36,7 +36,7 @@ use Rattle.table_rows.specs.Rows.{AreSorted, Places, rows_at, rows_present}
 use Rattle.table_rows.proofs.Entries.{put_again}
 use Rattle.row_judging.proofs.Gone.{divided_more, lost_among}
 use Rattle.table_rows.proofs.Laws.{absent_kept, rows_found}
-use Rattle.programs.specs.Store.{Store}
+use Rattle.keeper_core.specs.Store.{Store}
 use Rattle.schema_core.proofs.TableOrder.{tables_total}
 use Rattle.row_judging.specs.Lost.{some_lost}
 use Rattle.row_judging.specs.declared.losing.Before.TheVariants as before

@@ -26,10 +26,10 @@ use Rattle.sql_semantics.specs.SelectRefusals as select
 use Rattle.bulk_rows.proofs.Declared.{declared_bulk}
 use Rattle.bulk_rows.proofs.Refused.{refused}
 use Rattle.select_rows.proofs.Declared.{declared_select}
-use Rattle.programs.specs.declared.sent.Sent.{Sent}
-use Rattle.programs.specs.declared.sent.Sent.TheVariants as sent
-use Rattle.programs.specs.Programs.{Run, as_refusal, ends_early}
-use Rattle.programs.specs.Store.{Store}
+use Rattle.keeper_core.specs.declared.sent.Sent.{Sent}
+use Rattle.keeper_core.specs.declared.sent.Sent.TheVariants as sent
+use Rattle.keeper_core.specs.Programs.{Run, as_refusal, ends_early}
+use Rattle.keeper_core.specs.Store.{Store}
 use Rattle.keeper_core.specs.declared.keeper.WriteRefusal.{WriteRefusal}
 use Rattle.keeper_core.specs.declared.keeper.QueryRefusal.{QueryRefusal}
 use Rattle.keeper_core.specs.Calls as call

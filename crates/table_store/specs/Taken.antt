@@ -6,7 +6,7 @@ use Rattle.schema_core.specs.declared.statement.Unwritten.{Unwritten}
 use Rattle.schema_core.specs.Judged.{Judged}
 use Rattle.schema_core.specs.Tables.{Rows, Tables, row_under, with_rows, without_row}
 use Rattle.schema_core.specs.Told.{Told}
-use Rattle.programs.specs.Store.{Store}
+use Rattle.keeper_core.specs.Store.{Store}
 use Rattle.table_rows.specs.Rows.{Places, rows_at, rows_present}
 
 -- the tables without the row of a key in one of them

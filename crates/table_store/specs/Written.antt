@@ -14,9 +14,9 @@ use Rattle.sql_semantics.specs.Checked.{Checked, Refuses, ◌>>=◌}
 use Rattle.sql_semantics.specs.Created.{bare}
 use Rattle.sql_semantics.specs.Rows.{require_created}
 use Rattle.sql_semantics.specs.Taken.{deleted_from, updated_from}
-use Rattle.programs.specs.declared.sent.Sent.{Sent}
-use Rattle.programs.specs.Programs.{Run, ends_early}
-use Rattle.programs.specs.Store.{Store, committed_of}
+use Rattle.keeper_core.specs.declared.sent.Sent.{Sent}
+use Rattle.keeper_core.specs.Programs.{Run, ends_early}
+use Rattle.keeper_core.specs.Store.{Store, committed_of}
 use Rattle.table_log.specs.Marks.{IsNoted, Marked}
 use Rattle.keeper_core.specs.declared.keeper.WriteRefusal.{WriteRefusal}
 use Rattle.keeper_core.specs.declared.keeper.WriteRefusal.TheVariants as writes

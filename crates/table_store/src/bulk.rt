@@ -9,7 +9,7 @@ ghost use Rattle.sql_semantics.specs.Applied as spec;
 ghost use Rattle.sql_semantics.specs.Checked.{Gives};
 ghost use Rattle.sql_semantics.specs.Plain.{IsPlainBulk};
 ghost use Rattle.table_log.specs.Marks.{Notes, rows_there};
-ghost use Rattle.lent_tables.specs.Walks.{entries_left};
+ghost use Rattle.table_rows.specs.Walks.{entries_left};
 ghost use Rattle.table_rows.specs.Rows.{AreSorted, rows_at, rows_present};
 ghost use Rattle.row_statements.specs.Held.{put_all};
 ghost use Rattle.table_store.specs.Taken.{AreKeysOf, IsDivided, Made, take_all, without_key};
@@ -21,16 +21,14 @@ use base_core::{ColumnNo, Copied, Key, ListOf, Refusal, RowValues, TableId};
 use expr_types::{Bulk, Expr};
 use keeper_core::WriteRefusal;
 use keeper_core::calls::table_of_bulk;
-use lent_tables::{EntryWalk, LentTables};
-use row_cells::lacks_value;
-use row_judging::Before;
+use row_judging::{Before, lacks_value};
 use row_statements::{
     index_foreigns, insert_rows, make_indexes, put_copy, row_under, some_lost, stand,
 };
 use schema_core::{Schema, TableSpec, Unwritten, Violation};
 use std::alloc::{AllocError, Global};
 use table_log::TableLog;
-use table_rows::TableRows;
+use table_rows::{EntryWalk, LentTables, TableRows};
 
 #[tactic(auto, using(crate::proofs::BulkSteps::putting))]
 /// Writes rows, each under its key.

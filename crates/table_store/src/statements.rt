@@ -9,8 +9,8 @@ ghost use Rattle.sql_semantics.specs.Applied as bulk;
 ghost use Rattle.sql_semantics.specs.Plain.{IsPlainBulk, IsPlainSelect};
 ghost use Rattle.sql_semantics.specs.Created.{bare};
 ghost use Rattle.sql_semantics.specs.Shapes.{AreGiven, AreLegalRows, AreOfItems, AreRows, AreWide};
-ghost use Rattle.programs.specs.declared.sent.Sent.TheVariants as sent;
-ghost use Rattle.programs.specs.Programs.{as_refusal};
+ghost use Rattle.keeper_core.specs.declared.sent.Sent.TheVariants as sent;
+ghost use Rattle.keeper_core.specs.Programs.{as_refusal};
 ghost use Rattle.keeper_core.specs.Calls as call;
 ghost use Rattle.keeper_core.specs.Calls.{query_refusal, write_refusal};
 ghost use Rattle.keeper_core.specs.Keeping.{RefusesBulk, RefusesRow, RefusesSelect};
@@ -22,12 +22,12 @@ use crate::refusals::evaluation_refusal;
 use base_core::{KeyList, RowList, TableId};
 use expr_types::{Bulk, Select};
 use keeper_core::{QueryRefusal, WriteRefusal};
-use lent_tables::LentTables;
 use row_statements::apply;
 use schema_core::{RowStmt, Schema, Unwritten};
 use select_rows::rows_from;
 use std::alloc::{AllocError, Global};
 use table_log::TableLog;
+use table_rows::LentTables;
 
 #[tactic(auto, using(crate::proofs::Stored::rows))]
 /// Does a statement on rows, and answers their keys. A refused one changes nothing.

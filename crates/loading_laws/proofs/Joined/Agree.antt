@@ -9,14 +9,14 @@ use Rattle.sql_semantics.specs.Eval.{Row, rows_in}
 use Rattle.class_types.specs.declared.mapped.Relation.{Relation}
 use Rattle.class_sides.specs.Keys.{TableKey}
 use Rattle.class_mapping.specs.Mapped.{Mapped, root_of}
-use Rattle.programs.specs.Store.{Store}
+use Rattle.keeper_core.specs.Store.{Store}
 use Rattle.object_arena.specs.Fit.{relation_of}
 use Rattle.load_filling.specs.Rows.{row_key}
 use Rattle.load_rows.specs.Reading.{identity_key}
-use Rattle.load_links.specs.Links.{collection_of, link_at}
+use Rattle.load_rows.specs.Links.{collection_of, link_at}
 use Rattle.load_calls.specs.Reading.{World}
 use Rattle.load_ends.specs.Ends.{key_of}
-use Rattle.load_collections.specs.Collections.{load_collection}
+use Rattle.load_calls.specs.Collections.{load_collection}
 use Rattle.load_targets.specs.Targets.{load_target}
 use Rattle.loading_laws.specs.Answers.Answers.{AreRowsOf}
 use Rattle.loading_laws.specs.Members.{paired_rows}

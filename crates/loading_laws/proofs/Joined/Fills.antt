@@ -24,12 +24,12 @@ use Rattle.object_arena.specs.Identity.{find_identity}
 use Rattle.relations.specs.Mirror.{is_of}
 use Rattle.load_filling.specs.Rows.{row_key}
 use Rattle.load_rows.specs.Loading.{Loading}
-use Rattle.load_links.specs.Links.{collection_filled, collection_of, link_at}
+use Rattle.load_rows.specs.Links.{collection_filled, collection_of, link_at}
 use Rattle.load_calls.specs.Reading.{World}
 use Rattle.load_batches.specs.Batches.{is_unloaded}
 use Rattle.joined_rows.specs.declared.parts.Part.{Part}
 use Rattle.joined_rows.specs.Parts.{own_values, parts_of}
-use Rattle.load_joined.specs.Joined.{given_to, is_many, link_filled, load_joined, owners_among}
+use Rattle.load_queries.specs.Joined.{given_to, is_many, link_filled, load_joined, owners_among}
 use Rattle.loading_laws.specs.Answers.Answers.{AreRowsOf}
 use Rattle.loading_laws.specs.Strategies.Filled.{Goes, IsFilled, keys_in_order}
 use Rattle.loading_laws.specs.Strategies.Ends.{IsLed, StandsIfAny, has_row}

@@ -22,7 +22,7 @@ use Rattle.joined_rows.specs.declared.parts.Part.{Part}
 use Rattle.joined_rows.specs.Parts.{own_values, values_from}
 use Rattle.object_parts.specs.declared.answers.Taken.{Taken}
 use Rattle.joined_rows.specs.Taking.{has_target, member_at}
-use Rattle.load_joined.specs.Joined.{given_to}
+use Rattle.load_queries.specs.Joined.{given_to}
 use Rattle.loading_laws.specs.Answers.Answers.{AreRowsOf}
 use Rattle.loading_laws.specs.Members.{paired_rows}
 use Rattle.loading_laws.proofs.Members.Ranks.{same_equal}

@@ -9,17 +9,17 @@ use Rattle.base_core.specs.declared.ids.ObjId.{ObjId}
 use Rattle.base_core.specs.declared.ids.RelNo.{RelNo}
 use Rattle.base_core.proofs.Tests.{or_false}
 use Rattle.class_mapping.specs.Mapped.{Mapped}
-use Rattle.programs.specs.Programs.{each, give}
+use Rattle.keeper_core.specs.Programs.{each, give}
 use Rattle.object_arena.specs.declared.object.Link.{Link}
 use Rattle.object_arena.specs.declared.object.Link.TheVariants.{Unset, Unloaded, One, Many}
 use Rattle.object_arena.specs.declared.object.Object.{Object}
 use Rattle.object_arena.specs.Graph.{Graph, IsLink, IsObject, is_among, no_object, object_at, place_of, with_link}
 use Rattle.load_rows.specs.Loading.{Loading}
-use Rattle.load_links.specs.Links.{collection_filled, collection_of, end_filled, end_of, in_key_order, link_at, with_loaded}
+use Rattle.load_rows.specs.Links.{collection_filled, collection_of, end_filled, end_of, in_key_order, link_at, with_loaded}
 use Rattle.load_batches.specs.Batches.{is_unloaded}
 use Rattle.joined_rows.specs.declared.parts.Part.{Part}
 use Rattle.object_parts.specs.declared.answers.Taken.{Taken}
-use Rattle.load_joined.specs.Joined.{fill_option, fill_options, fill_owner, given_to, is_many, link_filled}
+use Rattle.load_queries.specs.Joined.{fill_option, fill_options, fill_owner, given_to, is_many, link_filled}
 use Rattle.loading_laws.specs.Strategies.Filled.{Goes}
 use Rattle.loading_laws.specs.Strategies.Standing.{Stays}
 use Rattle.loading_laws.proofs.Strategies.Batch.{or_assoc, or_true, stays_loaded}

@@ -14,8 +14,8 @@ use Rattle.sql_semantics.specs.Eval.{Row}
 use Rattle.class_mapping.specs.Mapped.{IsClass, Mapped, relations_of, root_of}
 use Rattle.class_mapping.specs.Related.{AreRelated}
 use Rattle.mapping_laws.specs.Hierarchies.{HasHierarchies}
-use Rattle.programs.specs.Beside.{on_own}
-use Rattle.programs.specs.Programs.{give}
+use Rattle.keeper_core.specs.Beside.{on_own}
+use Rattle.keeper_core.specs.Programs.{give}
 use Rattle.object_arena.specs.declared.object.Object.{Object}
 use Rattle.object_arena.specs.Fit.{IsFit, no_relation, relation_of}
 use Rattle.object_arena.specs.Graph.{Graph}
@@ -25,14 +25,14 @@ use Rattle.load_filling.specs.Rows.{row_key}
 use Rattle.load_rows.specs.Loading.{Loading}
 use Rattle.load_rows.specs.Reading.{identity_key}
 use Rattle.load_calls.specs.Reading.{World, read}
-use Rattle.load_collections.specs.Collections.{take_rows}
+use Rattle.load_calls.specs.Collections.{take_rows}
 use Rattle.object_parts.specs.Lists.{firsts}
 use Rattle.load_queries.specs.Queries.{load_select, take_objects}
 use Rattle.joined_rows.specs.declared.parts.Part.{Part}
 use Rattle.joined_rows.specs.Parts.{own_values, part_at, parts_from, parts_of, width_of}
 use Rattle.object_parts.specs.declared.answers.Taken.{Taken}
 use Rattle.joined_rows.specs.Taking.{take_joined}
-use Rattle.load_joined.specs.Joined.{answered as objects_answered, fill_options, fill_owners, fill_taken, load_joined, owners_among, take_answers}
+use Rattle.load_queries.specs.Joined.{answered as objects_answered, fill_options, fill_owners, fill_taken, load_joined, owners_among, take_answers}
 use Rattle.loading_laws.specs.Strategies.Filled.{Goes}
 use Rattle.loading_laws.proofs.Strategies.Finding.{Same}
 use Rattle.loading_laws.proofs.Strategies.Goes.{given, on_own_goes, parted, read_goes, same_answer}

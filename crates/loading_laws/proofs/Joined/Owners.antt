@@ -21,13 +21,13 @@ use Rattle.object_arena.specs.Graph.{Graph, IsLink, IsObject, is_among, no_objec
 use Rattle.object_arena.specs.Identity.{find_identity}
 use Rattle.relations.specs.Mirror.{is_of}
 use Rattle.load_filling.specs.Rows.{row_key}
-use Rattle.load_links.specs.Links.{link_at}
+use Rattle.load_rows.specs.Links.{link_at}
 use Rattle.object_parts.specs.Lists.{firsts, with_first}
 use Rattle.joined_rows.specs.declared.parts.Part.{Part}
 use Rattle.joined_rows.specs.Parts.{own_values}
 use Rattle.object_parts.specs.declared.answers.Taken.{Taken}
-use Rattle.load_joined.specs.Joined.{owners_among}
-use Rattle.load_joined.proofs.FillSteps.{inherits}
+use Rattle.load_queries.specs.Joined.{owners_among}
+use Rattle.load_queries.proofs.FillSteps.{inherits}
 use Rattle.loading_laws.proofs.Strategies.Finding.{IsUntouched}
 use Rattle.loading_laws.proofs.Strategies.Standing.{found_stands, link_kept}
 use Rattle.loading_laws.specs.Joined.Joined.{first_link, link_before}

@@ -6,14 +6,14 @@ use Rattle.base_core.specs.declared.ids.ObjId.{ObjId}
 use Rattle.base_core.specs.declared.value.Value.{Value}
 use Rattle.class_mapping.specs.Mapped.{IsClass, Mapped, relations_of, root_of}
 use Rattle.mapping_laws.specs.Hierarchies.{HasHierarchies}
-use Rattle.programs.specs.Programs.{◌>>=◌, each, give}
+use Rattle.keeper_core.specs.Programs.{◌>>=◌, each, give}
 use Rattle.object_arena.specs.declared.object.Link.TheVariants.{Unloaded}
 use Rattle.object_arena.specs.declared.object.Link.{Link}
 use Rattle.object_arena.specs.Graph.{Graph, IsObject, object_at}
 use Rattle.object_arena.specs.Identity.{find_identity}
 use Rattle.load_filling.specs.Rows.{row_key}
 use Rattle.load_rows.specs.Loading.{Loading, take_row}
-use Rattle.load_collections.specs.Collections.{take_next as take_next_row, take_rows}
+use Rattle.load_calls.specs.Collections.{take_next as take_next_row, take_rows}
 use Rattle.joined_rows.specs.declared.parts.Part.{Part}
 use Rattle.joined_rows.specs.Parts.{own_values, values_from}
 use Rattle.object_parts.specs.declared.answers.Taken.{Taken}

@@ -34,16 +34,16 @@ use Rattle.object_arena.specs.declared.object.Link.TheVariants.{Unset}
 use Rattle.object_arena.specs.declared.object.Object.{Object}
 use Rattle.object_arena.specs.Fit.{ObjectFits, no_relation}
 use Rattle.object_arena.specs.Graph.{Graph, IsLink, IsObject, no_object, object_at, place_of}
-use Rattle.load_collections.proofs.CollectionLemmas.{related_at}
+use Rattle.load_calls.proofs.CollectionLemmas.{related_at}
 use Rattle.load_columns.specs.Placing.{column_at, columns_at, foreign_numbers, from_root, place_of_table}
-use Rattle.load_laws.proofs.Keys.{key_fits}
-use Rattle.load_laws.proofs.MemberLemmas.{foreign_typed, owned_kinds, referred}
-use Rattle.load_laws.proofs.Standing.{is_of}
-use Rattle.load_laws.proofs.Typed.{fit_kinds, typed_long}
+use Rattle.collection_selects.proofs.Keys.{key_fits}
+use Rattle.collection_selects.proofs.MemberLemmas.{foreign_typed, owned_kinds, referred}
+use Rattle.collection_selects.proofs.Standing.{is_of}
+use Rattle.collection_selects.proofs.Typed.{fit_kinds, typed_long}
 use Rattle.load_selects.specs.Selects.{origin_of}
 use Rattle.collection_selects.specs.Collections.{owner_columns}
 use Rattle.load_rows.specs.Reading.{identity_key}
-use Rattle.load_links.specs.Links.{link_at}
+use Rattle.load_rows.specs.Links.{link_at}
 use Rattle.load_calls.specs.Reading.{World}
 use Rattle.load_targets.specs.ForeignKeys.{is_key_expired}
 use Rattle.load_batches.specs.Batches.{IsOwner, is_unloaded}

@@ -19,7 +19,7 @@ use Rattle.object_arena.specs.Identity.{find_identity}
 use Rattle.load_columns.specs.Placing.{from_root, root_key}
 use Rattle.load_filling.specs.Rows.{row_key}
 use Rattle.load_rows.specs.Reading.{identity_key}
-use Rattle.load_links.specs.Links.{end_of}
+use Rattle.load_rows.specs.Links.{end_of}
 use Rattle.load_batches.specs.Batches.{is_unloaded}
 use Rattle.loading_laws.specs.Answers.Equal.{equals_key}
 use Rattle.loading_laws.proofs.Answers.Values.{equals_known}

@@ -13,9 +13,9 @@ use Rattle.sql_semantics.specs.Shapes.{AreRows}
 use Rattle.class_types.specs.declared.mapped.Relation.{Relation}
 use Rattle.class_mapping.specs.Mapped.{Mapped, root_spec}
 use Rattle.class_mapping.specs.Paired.{IsAt}
-use Rattle.programs.specs.Programs.{◌>>=◌, continue_from, give}
-use Rattle.programs.specs.Beside.{by_own, on_own}
-use Rattle.programs.specs.Store.{Store}
+use Rattle.keeper_core.specs.Programs.{◌>>=◌, continue_from, give}
+use Rattle.keeper_core.specs.Beside.{by_own, on_own}
+use Rattle.keeper_core.specs.Store.{Store}
 use Rattle.object_arena.specs.declared.object.Link.{Link}
 use Rattle.object_arena.specs.declared.object.Link.TheVariants.{Unset}
 use Rattle.object_arena.specs.declared.object.Object.{Object}
@@ -23,10 +23,10 @@ use Rattle.object_arena.specs.Graph.{Graph, no_object, object_at, place_of}
 use Rattle.object_arena.specs.Identity.{IsGraph}
 use Rattle.load_filling.specs.Filled.{Found, filled_object, with_filled}
 use Rattle.load_rows.specs.Loading.{Loading, filled}
-use Rattle.load_links.specs.Links.{link_at}
+use Rattle.load_rows.specs.Links.{link_at}
 use Rattle.load_calls.specs.Reading.{World, read}
 use Rattle.load_calls.specs.Refreshing.{expired_attrs, found_among, read_cells, refresh, refresh_cells, take_cells}
-use Rattle.load_collections.specs.Collections.{load_collection}
+use Rattle.load_calls.specs.Collections.{load_collection}
 use Rattle.load_targets.specs.ForeignKeys.{is_key_expired}
 use Rattle.load_targets.specs.Targets.{load_end, load_lazy, load_target, refresh_if, refresh_key}
 use Rattle.load_batches.specs.Batches.{IsOwner, is_unloaded}

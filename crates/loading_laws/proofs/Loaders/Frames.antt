@@ -13,7 +13,7 @@ use Rattle.base_core.specs.declared.value.Value.{Value}
 use Rattle.class_types.specs.declared.mapped.Relation.{Relation}
 use Rattle.class_mapping.specs.Mapped.{IsClass, Mapped, root_of}
 use Rattle.mapping_laws.specs.Hierarchies.{HasHierarchies}
-use Rattle.programs.specs.Programs.{Run, ◌>>=◌, change, each, give}
+use Rattle.keeper_core.specs.Programs.{Run, ◌>>=◌, change, each, give}
 use Rattle.object_arena.specs.declared.object.Link.{Link}
 use Rattle.object_arena.specs.declared.object.Link.TheVariants.{Unset, Unloaded, One, Many}
 use Rattle.object_arena.specs.declared.object.Object.{Object}
@@ -26,8 +26,8 @@ use Rattle.load_filling.specs.Loaded.{load, with_loaded as with_object_loaded}
 use Rattle.load_filling.specs.Rows.{class_named, found_or_loaded, loaded_as, row_key, row_object}
 use Rattle.load_filling.proofs.LoadedLemmas.{fresh_free, loaded_is, next_object}
 use Rattle.load_rows.specs.Loading.{Loading, filled, found_in_row, take_row, taken_as}
-use Rattle.load_links.specs.Links.{collection_filled, collection_of, end_filled, end_of, in_key_order, link_at, with_loaded}
-use Rattle.load_collections.specs.Collections.{take_next, take_rows}
+use Rattle.load_rows.specs.Links.{collection_filled, collection_of, end_filled, end_of, in_key_order, link_at, with_loaded}
+use Rattle.load_calls.specs.Collections.{take_next, take_rows}
 use Rattle.load_batches.specs.Batches.{fill_batch, fill_owner, fill_owners, is_unloaded, member_of, members_under, owner_key_in, take_member, take_members, target_values}
 use Rattle.load_batches.specs.declared.members.Member.{Member}
 use Rattle.load_batches.specs.declared.owners.Owner.{Owner}

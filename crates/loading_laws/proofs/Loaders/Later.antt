@@ -19,7 +19,7 @@ use Rattle.class_sides.specs.Keys.{TableKey}
 use Rattle.class_mapping.specs.Mapped.{Mapped, root_of, root_spec}
 use Rattle.class_mapping.specs.Paired.{IsAt, is_at_or_under}
 use Rattle.class_mapping.proofs.Lists.{or_left, or_right}
-use Rattle.programs.specs.Store.{Store}
+use Rattle.keeper_core.specs.Store.{Store}
 use Rattle.object_arena.specs.declared.object.Link.{Link}
 use Rattle.object_arena.specs.declared.object.Link.TheVariants.{Unset, Unloaded, One, Many}
 use Rattle.object_arena.specs.declared.object.Object.{Object}
@@ -29,7 +29,7 @@ use Rattle.object_arena.proofs.GraphLemmas.{held_position}
 use Rattle.object_arena.proofs.HolderLemmas.{place_holds}
 use Rattle.relations.specs.Mirror.{is_of}
 use Rattle.load_rows.specs.Reading.{identity_key}
-use Rattle.load_links.specs.Links.{link_at, linked}
+use Rattle.load_rows.specs.Links.{link_at, linked}
 use Rattle.load_calls.specs.Reading.{World}
 use Rattle.load_targets.specs.ForeignKeys.{foreign_attrs, is_expired_among, is_key_expired, value_at, value_of, values_at}
 use Rattle.load_batches.specs.Batches.{is_unloaded}

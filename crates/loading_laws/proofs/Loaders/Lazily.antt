@@ -15,8 +15,8 @@ use Rattle.sql_semantics.specs.Eval.{Row}
 use Rattle.class_types.specs.declared.mapped.Relation.{Relation}
 use Rattle.class_mapping.specs.Mapped.{IsClass, Mapped, root_of}
 use Rattle.mapping_laws.specs.Hierarchies.{HasHierarchies}
-use Rattle.programs.specs.Programs.{each, give}
-use Rattle.programs.specs.Beside.{by_own, changes, on_own}
+use Rattle.keeper_core.specs.Programs.{each, give}
+use Rattle.keeper_core.specs.Beside.{by_own, changes, on_own}
 use Rattle.object_arena.specs.declared.object.Link.{Link}
 use Rattle.object_arena.specs.declared.object.Link.TheVariants.{Unset}
 use Rattle.object_arena.specs.declared.object.Object.{Object}
@@ -27,9 +27,9 @@ use Rattle.collection_selects.specs.Collections.{members_select}
 use Rattle.load_selects.specs.Selects.{key_select}
 use Rattle.load_rows.specs.Loading.{Loading, take_row}
 use Rattle.load_rows.specs.Reading.{identity_key}
-use Rattle.load_links.specs.Links.{collection_filled, collection_of, end_filled, end_of, in_key_order, link_at, with_loaded}
+use Rattle.load_rows.specs.Links.{collection_filled, collection_of, end_filled, end_of, in_key_order, link_at, with_loaded}
 use Rattle.load_calls.specs.Reading.{World, read}
-use Rattle.load_collections.specs.Collections.{load_collection, read_members, take_members, take_rows}
+use Rattle.load_calls.specs.Collections.{load_collection, read_members, take_members, take_rows}
 use Rattle.load_targets.specs.ForeignKeys.{foreign_key, is_key_expired}
 use Rattle.load_targets.specs.Targets.{find_or_load, found_or_load, if_of, load_by, load_end, load_key, load_lazy, load_target, read_target, refresh_if, refresh_key, take_first}
 use Rattle.load_batches.specs.Batches.{is_unloaded}

@@ -16,15 +16,15 @@ use Rattle.object_arena.specs.Fit.{relation_of}
 use Rattle.object_arena.specs.Graph.{Graph, is_among, object_at}
 use Rattle.load_rows.specs.Loading.{Loading}
 use Rattle.load_rows.specs.Reading.{identity_key}
-use Rattle.load_links.specs.Links.{link_at}
+use Rattle.load_rows.specs.Links.{link_at}
 use Rattle.load_calls.specs.Reading.{World}
-use Rattle.programs.specs.Beside.{by_own}
-use Rattle.load_collections.specs.Collections.{load_collection}
+use Rattle.keeper_core.specs.Beside.{by_own}
+use Rattle.load_calls.specs.Collections.{load_collection}
 use Rattle.load_targets.specs.Targets.{load_by, load_lazy, load_target}
 use Rattle.load_batches.specs.Batches.{IsOwner, is_unloaded, load_batches, load_members, unloaded_owner, unloaded_owners, with_key as with_owner_key}
 use Rattle.load_batches.specs.declared.owners.Owner.{Owner}
 use Rattle.load_ends.specs.Ends.{if_unloaded, key_of, load_ends, load_unloaded, unloaded}
-use Rattle.load_selectin.specs.Selectin.{load_selectin, load_together}
+use Rattle.load_queries.specs.Selectin.{load_selectin, load_together}
 use Rattle.loading_laws.specs.Answers.Answers.{AreRowsOf}
 use Rattle.loading_laws.specs.Strategies.Ends.{IsManyToOne, IsPointing, LeadsToTarget}
 use Rattle.loading_laws.specs.Strategies.Filled.{AreAlike, Goes, IsFilled, IsOneToMany, IsWaiting, related_rows}

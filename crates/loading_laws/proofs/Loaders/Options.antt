@@ -17,8 +17,8 @@ use Rattle.class_mapping.specs.Paired.{is_at_or_under}
 use Rattle.class_mapping.specs.Related.{AreRelated, IsRelated}
 use Rattle.class_mapping.proofs.Having.{some_of}
 use Rattle.mapping_laws.specs.Hierarchies.{HasHierarchies}
-use Rattle.programs.specs.Programs.{Run, ◌>>=◌, each}
-use Rattle.programs.specs.Beside.{by_own, on_own}
+use Rattle.keeper_core.specs.Programs.{Run, ◌>>=◌, each}
+use Rattle.keeper_core.specs.Beside.{by_own, on_own}
 use Rattle.object_arena.specs.declared.object.Link.{Link}
 use Rattle.object_arena.specs.declared.object.Object.{Object}
 use Rattle.object_arena.specs.declared.object.State.{State}
@@ -28,16 +28,16 @@ use Rattle.object_arena.specs.Identity.{IsGraph, has_key, holds, is_identified}
 use Rattle.object_arena.proofs.GraphLemmas.{same_equiv}
 use Rattle.relations.specs.Mirror.{is_of}
 use Rattle.load_rows.specs.Loading.{Loading}
-use Rattle.load_links.specs.Links.{link_at}
+use Rattle.load_rows.specs.Links.{link_at}
 use Rattle.load_calls.specs.Reading.{World, read}
-use Rattle.load_collections.proofs.CollectionLemmas.{related_at}
+use Rattle.load_calls.proofs.CollectionLemmas.{related_at}
 use Rattle.load_batches.specs.Batches.{IsOwner, batch_at, batch_starts, fill_batch, is_unloaded, keys_of, load_batch, load_each, load_from, load_members, read_batch, unloaded_owners}
 use Rattle.load_batches.specs.declared.owners.Owner.{Owner}
 use Rattle.collection_selects.specs.Collections.{batch_select}
 use Rattle.load_ends.specs.Ends as ends
 use Rattle.load_selects.specs.Selects.{targets_select}
-use Rattle.load_selectin.specs.Selectin.{IsOption, IsOwnerOf, if_owner, is_owner, load_option, load_options, load_selectin, load_together, owners_among}
-use Rattle.load_selectin.proofs.OwnerLemmas.{owner_tested, owner_under}
+use Rattle.load_queries.specs.Selectin.{IsOption, IsOwnerOf, if_owner, is_owner, load_option, load_options, load_selectin, load_together, owners_among}
+use Rattle.load_queries.proofs.OwnerLemmas.{owner_tested, owner_under}
 use Rattle.loading_laws.specs.Answers.Answers.{AreRowsOf}
 use Rattle.loading_laws.proofs.Members.Choices.{every_has}
 use Rattle.loading_laws.specs.Strategies.Filled.{Goes}

@@ -52,8 +52,8 @@ use Rattle.load_filling.specs.Rows.{row_key}
 use Rattle.load_rows.specs.Reading.{identity_key}
 use Rattle.load_calls.specs.Reading.{World}
 use Rattle.load_calls.proofs.RefreshLemmas.{own_key_fits}
-use Rattle.load_laws.proofs.Keys.{key_fits as table_key_fits}
-use Rattle.load_laws.proofs.Placed.{branch_under, rank_finds}
+use Rattle.collection_selects.proofs.Keys.{key_fits as table_key_fits}
+use Rattle.collection_selects.proofs.Placed.{branch_under, rank_finds}
 use Rattle.load_selects.specs.Branches.{branch, class_ids, class_numbered, discriminator_column, discriminator_of, identities, is_under}
 use Rattle.loading_laws.specs.Answers.Answers.{AreRowsOf}
 use Rattle.loading_laws.specs.Answers.Equal.{are_equal}

@@ -12,25 +12,25 @@ use Rattle.class_types.specs.declared.mapped.Relation.{Relation}
 use Rattle.class_mapping.specs.Mapped.{IsClass, Mapped}
 use Rattle.class_mapping.specs.Related.{IsRelated}
 use Rattle.mapping_laws.specs.Hierarchies.{HasHierarchies}
-use Rattle.programs.specs.Programs.{Event, Run, ◌>>=◌, change, continue_from, each, give}
-use Rattle.programs.specs.Beside.{by_own, on_own, on_store}
+use Rattle.keeper_core.specs.Programs.{Event, Run, ◌>>=◌, change, continue_from, each, give}
+use Rattle.keeper_core.specs.Beside.{by_own, on_own, on_store}
 use Rattle.keeper_core.specs.Calls.{query}
 use Rattle.object_arena.specs.Fit.{relation_of}
 use Rattle.object_arena.specs.Graph.{Graph, no_object, object_at, place_of}
 use Rattle.object_arena.specs.Identity.{IsGraph}
 use Rattle.load_filling.specs.Rows.{row_object}
 use Rattle.load_rows.specs.Loading.{Loading, take_row, taken_as}
-use Rattle.load_links.specs.Links.{collection_filled}
+use Rattle.load_rows.specs.Links.{collection_filled}
 use Rattle.load_calls.specs.Reading.{World, read}
-use Rattle.load_collections.specs.Collections.{take_next, take_rows}
-use Rattle.load_collections.proofs.CollectionLemmas.{related_at}
+use Rattle.load_calls.specs.Collections.{take_next, take_rows}
+use Rattle.load_calls.proofs.CollectionLemmas.{related_at}
 use Rattle.load_batches.specs.Batches.{IsOwner, batch_at, batch_starts, fill_batch, fill_owner, fill_owners, keys_of, load_batch, load_each, load_from, load_members, member_of, members_under, owner_key_in, read_batch, take_member, take_members, target_values, unloaded_owners}
 use Rattle.load_batches.specs.declared.members.Member.{Member}
 use Rattle.load_batches.specs.declared.owners.Owner.{Owner}
 use Rattle.collection_selects.specs.Collections.{batch_select}
 use Rattle.load_ends.specs.Ends as ends
 use Rattle.load_selects.specs.Selects.{targets_select}
-use Rattle.load_selectin.specs.Selectin.{load_selectin}
+use Rattle.load_queries.specs.Selectin.{load_selectin}
 use Rattle.loading_laws.specs.Loaders.Linked.{IsStage}
 use Rattle.loading_laws.specs.Loaders.Options.{Leaves}
 use Rattle.loading_laws.proofs.Loaders.Frames.{collection_leaves, end_leaves, framed_row, leaves_same, leaves_then}

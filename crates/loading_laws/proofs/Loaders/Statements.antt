@@ -12,22 +12,22 @@ use Rattle.schema_core.specs.Catalog.{Catalog}
 use Rattle.expr_types.specs.declared.select.Select.{Select}
 use Rattle.class_types.specs.declared.mapped.Relation.{Relation}
 use Rattle.class_mapping.specs.Mapped.{Mapped}
-use Rattle.programs.specs.Programs.{Event, Run, ◌>>=◌, change, continue_from, each, give}
-use Rattle.programs.specs.Beside.{Beside, by_own, on_own, on_store}
-use Rattle.programs.specs.Store.{Store}
+use Rattle.keeper_core.specs.Programs.{Event, Run, ◌>>=◌, change, continue_from, each, give}
+use Rattle.keeper_core.specs.Beside.{Beside, by_own, on_own, on_store}
+use Rattle.keeper_core.specs.Store.{Store}
 use Rattle.keeper_core.specs.Calls.{query}
 use Rattle.object_arena.specs.Graph.{Graph}
 use Rattle.collection_selects.specs.Collections.{batch_select}
 use Rattle.load_filling.specs.Rows.{row_object}
 use Rattle.load_rows.specs.Loading.{Loading, take_row, taken_as}
 use Rattle.load_selects.specs.Selects.{targets_select}
-use Rattle.load_links.specs.Links.{collection_filled}
+use Rattle.load_rows.specs.Links.{collection_filled}
 use Rattle.load_calls.specs.Reading.{World, read}
-use Rattle.load_collections.specs.Collections.{take_next, take_rows}
+use Rattle.load_calls.specs.Collections.{take_next, take_rows}
 use Rattle.load_batches.specs.Batches.{IsOwner, batch_at, batch_size, fill_batch, fill_owner, fill_owners, keys_of, load_batch, load_each, load_members, read_batch, member_of, members_under, owner_key_in, take_member, take_members, target_values, unloaded_owners}
 use Rattle.load_batches.specs.declared.owners.Owner.{Owner}
 use Rattle.load_ends.specs.Ends as ends
-use Rattle.load_selectin.specs.Selectin.{load_selectin, load_together}
+use Rattle.load_queries.specs.Selectin.{load_selectin, load_together}
 use Rattle.loading_laws.proofs.Answers.Totals.{map_twice}
 use Rattle.loading_laws.specs.Strategies.Filled.{Goes}
 use Rattle.loading_laws.proofs.Strategies.Goes.{Parted, on_own_goes, parted, read_goes}

@@ -20,9 +20,9 @@ use Rattle.select_rows.proofs.ItemKinds.{rows_of_kinds}
 use Rattle.select_rows.proofs.NotNull.{rows_given}
 use Rattle.class_mapping.specs.Mapped.{IsClass, Mapped, attributes_of, relations_of, root_of}
 use Rattle.mapping_laws.specs.Hierarchies.{HasHierarchies}
-use Rattle.programs.specs.Beside.{on_own}
-use Rattle.programs.specs.Programs.{each, give}
-use Rattle.programs.specs.Store.{Store}
+use Rattle.keeper_core.specs.Beside.{on_own}
+use Rattle.keeper_core.specs.Programs.{each, give}
+use Rattle.keeper_core.specs.Store.{Store}
 use Rattle.object_arena.specs.declared.object.State.{State}
 use Rattle.object_arena.specs.declared.object.State.TheVariants.{Transient, Pending, Persistent, Deleted, Detached}
 use Rattle.object_arena.specs.Fit.{IsFit, relation_of}
@@ -36,12 +36,12 @@ use Rattle.load_filling.specs.Rows.{row_key}
 use Rattle.load_rows.specs.Loading.{Loading, take_row}
 use Rattle.load_rows.specs.Reading.{IsRowOf}
 use Rattle.load_calls.specs.Reading.{World, read}
-use Rattle.load_collections.specs.Collections.{take_next, take_rows}
+use Rattle.load_calls.specs.Collections.{take_next, take_rows}
 use Rattle.object_parts.specs.Lists.{firsts}
 use Rattle.load_queries.specs.Queries.{load_select, take_objects}
 use Rattle.load_queries.proofs.FirstSteps.{firsts_all}
 use Rattle.load_queries.proofs.QuerySteps.{query_rows}
-use Rattle.load_selectin.proofs.OwnerLemmas.{owner_under}
+use Rattle.load_queries.proofs.OwnerLemmas.{owner_under}
 use Rattle.loading_laws.specs.Strategies.Filled.{Goes}
 use Rattle.loading_laws.specs.Strategies.Standing.{Stands}
 use Rattle.loading_laws.proofs.Strategies.Batch.{one_waiting}

@@ -12,7 +12,7 @@ use Rattle.schema_core.specs.Tables.{has_null}
 use Rattle.class_types.specs.declared.mapped.Relation.{Relation}
 use Rattle.class_mapping.specs.Mapped.{IsClass, Mapped, relations_of, root_of}
 use Rattle.mapping_laws.specs.Hierarchies.{HasHierarchies}
-use Rattle.programs.specs.Programs.{Run, ◌>>=◌, each, give}
+use Rattle.keeper_core.specs.Programs.{Run, ◌>>=◌, each, give}
 use Rattle.object_arena.specs.declared.object.Link.{Link}
 use Rattle.object_arena.specs.Fit.{IsFit, end_fits, is_of_root, link_fits, relation_of}
 use Rattle.object_arena.specs.Graph.{Graph, is_persistent, object_at, root_at, with_link}
@@ -20,9 +20,9 @@ use Rattle.object_arena.specs.Identity.{IsGraph, find_identity, has_key}
 use Rattle.object_arena.proofs.FitLemmas.{fit_at, fit_link, fit_links}
 use Rattle.load_rows.specs.Loading.{Loading, take_row}
 use Rattle.load_rows.specs.Reading.{IsRowOf}
-use Rattle.load_links.specs.Links.{collection_filled, collection_of, end_filled, end_of, in_key_order, link_at, with_loaded}
-use Rattle.load_links.proofs.LinkLemmas.{collection_fits, end_link_fits, own_link_fits}
-use Rattle.load_collections.proofs.RowsLemmas.{object_of}
+use Rattle.load_rows.specs.Links.{collection_filled, collection_of, end_filled, end_of, in_key_order, link_at, with_loaded}
+use Rattle.load_rows.proofs.LinkLemmas.{collection_fits, end_link_fits, own_link_fits}
+use Rattle.load_calls.proofs.RowsLemmas.{object_of}
 use Rattle.load_targets.specs.Targets.{if_of}
 use Rattle.load_targets.proofs.EndLemmas.{known_of}
 use Rattle.load_ends.specs.Ends.{IsChild, known_end}

@@ -19,9 +19,9 @@ use Rattle.class_types.specs.declared.mapped.Relation.{Relation}
 use Rattle.class_mapping.specs.Mapped.{IsClass, Mapped, relations_of, root_of}
 use Rattle.class_mapping.specs.Related.{IsRelated}
 use Rattle.mapping_laws.specs.Hierarchies.{HasHierarchies}
-use Rattle.programs.specs.Beside.{by_own, changes, on_own}
-use Rattle.programs.specs.Programs.{each, give}
-use Rattle.programs.specs.Store.{Store}
+use Rattle.keeper_core.specs.Beside.{by_own, changes, on_own}
+use Rattle.keeper_core.specs.Programs.{each, give}
+use Rattle.keeper_core.specs.Store.{Store}
 use Rattle.object_arena.specs.Fit.{IsFit, end_fits, is_of_root, key_fits, relation_of}
 use Rattle.object_arena.specs.declared.object.Object.{Object}
 use Rattle.object_arena.specs.declared.object.State.{State}
@@ -32,13 +32,13 @@ use Rattle.object_arena.proofs.GraphLemmas.{same_equiv}
 use Rattle.object_arena.proofs.FitLemmas.{fit_at, fit_cells}
 use Rattle.collection_selects.specs.Collections.{members_select}
 use Rattle.load_selects.specs.Selects.{key_select}
-use Rattle.load_laws.proofs.PairLemmas.{members_are_plain}
+use Rattle.collection_selects.proofs.PairLemmas.{members_are_plain}
 use Rattle.load_rows.specs.Loading.{Loading, take_row}
 use Rattle.load_rows.specs.Reading.{IsRowOf, identity_key}
-use Rattle.load_links.specs.Links.{collection_filled, end_filled}
+use Rattle.load_rows.specs.Links.{collection_filled, end_filled}
 use Rattle.load_calls.specs.Reading.{World, read}
-use Rattle.load_collections.specs.Collections.{load_collection, read_members, take_members, take_rows}
-use Rattle.load_collections.proofs.CollectionLemmas.{members_rows}
+use Rattle.load_calls.specs.Collections.{load_collection, read_members, take_members, take_rows}
+use Rattle.load_calls.proofs.CollectionLemmas.{members_rows}
 use Rattle.load_targets.specs.ForeignKeys.{foreign_key, is_key_expired}
 use Rattle.load_targets.specs.Targets.{find_or_load, found_or_load, if_of, load_end, load_key, load_lazy, load_target, read_target, refresh_if, refresh_key, take_first}
 use Rattle.load_targets.proofs.EndLemmas.{key_plain, key_rows, known_of}

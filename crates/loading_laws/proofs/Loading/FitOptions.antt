@@ -14,8 +14,8 @@ use Rattle.class_types.specs.declared.mapped.Relation.{Relation}
 use Rattle.class_mapping.specs.Mapped.{IsClass, Mapped, root_of}
 use Rattle.class_mapping.specs.Related.{IsRelated}
 use Rattle.mapping_laws.specs.Hierarchies.{HasHierarchies}
-use Rattle.programs.specs.Beside.{by_own, on_own}
-use Rattle.programs.specs.Programs.{each, give}
+use Rattle.keeper_core.specs.Beside.{by_own, on_own}
+use Rattle.keeper_core.specs.Programs.{each, give}
 use Rattle.object_arena.specs.Fit.{IsFit, is_of_root, relation_of}
 use Rattle.object_arena.specs.Graph.{Graph, IsObject, no_object, object_at, place_of}
 use Rattle.object_arena.specs.Identity.{IsGraph, find_identity}
@@ -23,16 +23,16 @@ use Rattle.collection_selects.specs.Collections.{batch_select}
 use Rattle.load_selects.specs.Selects.{targets_select}
 use Rattle.load_columns.specs.Conditions.{has_one_of}
 use Rattle.load_columns.specs.Placing.{from_root, root_key}
-use Rattle.load_laws.proofs.ClassLemmas.{targets_are_plain}
+use Rattle.collection_selects.proofs.ClassLemmas.{targets_are_plain}
 use Rattle.mapping_laws.proofs.KeyKinds.{keys_alike}
 use Rattle.mapping_laws.proofs.Ties.{class_tables}
-use Rattle.load_laws.proofs.Rows.{are_rows}
-use Rattle.load_laws.specs.Pairs.{IsMemberRow}
+use Rattle.collection_selects.proofs.Rows.{are_rows}
+use Rattle.collection_selects.specs.Pairs.{IsMemberRow}
 use Rattle.load_rows.specs.Loading.{Loading}
-use Rattle.load_links.specs.Links.{collection_filled, link_at}
+use Rattle.load_rows.specs.Links.{collection_filled, link_at}
 use Rattle.load_calls.specs.Reading.{World, read}
-use Rattle.load_collections.specs.Collections.{take_rows}
-use Rattle.load_collections.proofs.CollectionLemmas.{related_at}
+use Rattle.load_calls.specs.Collections.{take_rows}
+use Rattle.load_calls.proofs.CollectionLemmas.{related_at}
 use Rattle.load_batches.specs.Batches.{IsOwned, IsOwner, batch_at, batch_size, batch_starts, fill_batch, fill_owner, fill_owners, is_unloaded, keys_of, load_batch, load_each, load_from, load_members, member_of, members_under, objects_in, owner_key_in, read_batch, take_members, target_values, unloaded_owner, unloaded_owners, with_key as with_owner_key}
 use Rattle.load_batches.specs.declared.members.Member.{Member}
 use Rattle.load_batches.specs.declared.owners.Owner.{Owner}
@@ -40,8 +40,8 @@ use Rattle.load_batches.proofs.BatchSteps.{batch_plain, batch_rows}
 use Rattle.load_batches.proofs.MemberSteps.{under_all}
 use Rattle.load_batches.proofs.OwnerSteps.{batch_all, keyed_all, owner_keyed}
 use Rattle.load_ends.specs.Ends as ends
-use Rattle.load_selectin.specs.Selectin.{IsOption, IsOwnerOf, if_owner, is_owner, load_option, load_options, load_together, owners_among}
-use Rattle.load_selectin.proofs.OwnerLemmas.{owner_tested, owners_of}
+use Rattle.load_queries.specs.Selectin.{IsOption, IsOwnerOf, if_owner, is_owner, load_option, load_options, load_together, owners_among}
+use Rattle.load_queries.proofs.OwnerLemmas.{owner_tested, owners_of}
 use Rattle.loading_laws.specs.Strategies.Filled.{Goes}
 use Rattle.loading_laws.proofs.Strategies.Goes.{by_own_goes, change_to, given, on_own_goes, parted}
 use Rattle.loading_laws.proofs.Strategies.Standing.{made_later}

@@ -25,15 +25,15 @@ use Rattle.class_types.specs.declared.mapped.Attribute.{Attribute}
 use Rattle.class_mapping.specs.Mapped.{IsClass, Mapped, attribute_of, attributes_of, no_attribute, root_of, table_or_none, tables_of as class_tables_of}
 use Rattle.class_mapping.proofs.Having.{has_at}
 use Rattle.mapping_laws.specs.Hierarchies.{HasHierarchies}
-use Rattle.programs.specs.Beside.{on_own}
-use Rattle.programs.specs.Programs.{each, give}
+use Rattle.keeper_core.specs.Beside.{on_own}
+use Rattle.keeper_core.specs.Programs.{each, give}
 use Rattle.object_arena.specs.declared.object.Cell.{Cell}
 use Rattle.object_arena.specs.declared.object.Object.{Object}
 use Rattle.object_arena.specs.declared.object.State.TheVariants.{Persistent}
 use Rattle.object_arena.specs.Graph.{Graph, expired_cell, no_object, object_at, object_limit, place_of}
 use Rattle.object_arena.specs.Identity.{find_identity}
 use Rattle.load_columns.specs.Placing.{attribute_column, attribute_columns, from_root, rank_of}
-use Rattle.load_laws.proofs.ClassLemmas.{rank_is}
+use Rattle.collection_selects.proofs.ClassLemmas.{rank_is}
 use Rattle.main_selects.specs.MainSelect.{main_select}
 use Rattle.load_filling.specs.Filled.{Found, cell_read, filled_cell, filled_object, value_found, with_filled}
 use Rattle.load_filling.specs.Loaded.{load, loaded_object, with_loaded}
@@ -41,11 +41,11 @@ use Rattle.load_filling.specs.Rows.{class_named, found_or_loaded, loaded_as, row
 use Rattle.load_rows.specs.Loading.{Loading, filled, found_in_row, is_same_column, take_row, taken_as, value_for}
 use Rattle.load_rows.specs.Reading.{identity_key}
 use Rattle.load_calls.specs.Reading.{World, read}
-use Rattle.load_collections.specs.Collections.{take_next, take_rows}
+use Rattle.load_calls.specs.Collections.{take_next, take_rows}
 use Rattle.object_parts.specs.Lists.{firsts}
 use Rattle.load_queries.specs.Queries.{load_select, take_objects}
 use Rattle.load_targets.specs.ForeignKeys.{value_of}
-use Rattle.legality_laws.specs.Legality.{AreSound}
+use Rattle.table_laws.specs.Legality.{AreSound}
 use Rattle.loading_laws.proofs.Members.Choices.{Choice, chosen}
 use Rattle.loading_laws.proofs.Members.Owned.{attribute_ranked}
 use Rattle.loading_laws.proofs.Members.Ranks.{AreRanked}

@@ -46,8 +46,8 @@ use Rattle.load_filling.specs.Filled.{Found, cell_read, filled_cell, filled_obje
 use Rattle.load_filling.specs.Rows.{row_key, row_object, value_in}
 use Rattle.load_rows.specs.Loading.{Loading, filled, found_in_row, is_same_column, take_row, taken_as, value_for}
 use Rattle.load_rows.specs.Reading.{IsRowOf}
-use Rattle.load_laws.proofs.MemberLemmas.{among_has}
-use Rattle.load_collections.proofs.CollectionLemmas.{related_at}
+use Rattle.collection_selects.proofs.MemberLemmas.{among_has}
+use Rattle.load_calls.proofs.CollectionLemmas.{related_at}
 use Rattle.load_targets.specs.ForeignKeys.{attr_named, foreign_attrs, is_expired_among, is_key_expired, value_of}
 use Rattle.load_targets.proofs.KeyLemmas.{one_without}
 use Rattle.loading_laws.proofs.MainSelects.Referring.{declared_above}

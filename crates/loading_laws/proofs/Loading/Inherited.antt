@@ -25,7 +25,7 @@ use Rattle.class_mapping.proofs.Having.{Has, any_has, from_filter, from_flat, fr
 use Rattle.mapping_laws.specs.Hierarchies.{HasHierarchies}
 use Rattle.mapping_laws.proofs.Tables.{tables_declared}
 use Rattle.mapping_laws.proofs.Ties.{table_faultless}
-use Rattle.load_laws.proofs.MemberLemmas.{among_has}
+use Rattle.collection_selects.proofs.MemberLemmas.{among_has}
 use Rattle.load_filling.specs.Rows.{value_in}
 use Rattle.load_targets.specs.ForeignKeys.{foreign_attrs}
 use Rattle.loading_laws.specs.TiedRows.{ReadsKeys}

@@ -10,13 +10,13 @@ use Rattle.class_types.specs.declared.mapped.Relation.{Relation}
 use Rattle.class_sides.specs.Keys.{TableKey}
 use Rattle.class_mapping.specs.Mapped.{Mapped}
 use Rattle.class_mapping.proofs.Having.{true_false}
-use Rattle.programs.specs.Store.{Store}
+use Rattle.keeper_core.specs.Store.{Store}
 use Rattle.object_arena.specs.declared.object.Link.{Link}
 use Rattle.object_arena.specs.Fit.{relation_of}
 use Rattle.object_arena.specs.Graph.{object_at}
 use Rattle.load_filling.specs.Rows.{row_key}
 use Rattle.load_rows.specs.Reading.{identity_key}
-use Rattle.load_links.specs.Links.{link_at}
+use Rattle.load_rows.specs.Links.{link_at}
 use Rattle.load_calls.specs.Reading.{World}
 use Rattle.load_ends.specs.Ends.{key_of}
 use Rattle.loading_laws.specs.Members.{paired_rows}

@@ -27,13 +27,13 @@ use Rattle.schema_core.specs.Tables.{cell_of, cells_of, dangles, fits, has_null,
 use Rattle.schema_core.proofs.Names.{name_itself, same_names}
 use Rattle.sql_semantics.specs.Created.{bare}
 use Rattle.sql_semantics.specs.Eval.{Row, item_or_null, rows_in}
-use Rattle.lent_tables.proofs.Bare.{rows_found, rows_missed}
+use Rattle.table_rows.proofs.Bare.{rows_found, rows_missed}
 use Rattle.table_laws.proofs.Ascending.{rows_ascend}
 use Rattle.table_laws.proofs.Entries.{all_lookup, any_none}
 use Rattle.table_laws.proofs.Legality.{Bound, bound_at}
 use Rattle.table_laws.proofs.SameValues.{same_key, same_table, same_turned}
-use Rattle.legality_laws.specs.Legality.{AreSound}
-use Rattle.legality_laws.proofs.HeldRows.{legal_rows}
+use Rattle.table_laws.specs.Legality.{AreSound}
+use Rattle.table_laws.proofs.HeldRows.{legal_rows}
 use Rattle.class_types.specs.declared.declared.ClassSpec.{ClassSpec}
 use Rattle.class_layouts.specs.Columns.{columns_in, layout_of, layouts_of}
 use Rattle.class_layouts.specs.Faults.{foreigns_in, foreigns_of}
@@ -50,7 +50,7 @@ use Rattle.mapping_laws.proofs.Tables.{not_zero, tables_declared, turned}
 use Rattle.mapping_laws.proofs.Ties.{class_tables, table_faultless}
 use Rattle.object_arena.proofs.GraphLemmas.{same_equiv}
 use Rattle.load_columns.specs.Placing.{column_named, foreign_numbers, number_at}
-use Rattle.load_laws.proofs.MemberLemmas.{RefersTo, foreign_kinds, place_in, referring_within}
+use Rattle.collection_selects.proofs.MemberLemmas.{RefersTo, foreign_kinds, place_in, referring_within}
 use Rattle.loading_laws.proofs.Answers.Totals.{map_twice}
 use Rattle.loading_laws.proofs.Members.Choices.{every_has, pointwise_long, row_of_table}
 use Rattle.loading_laws.proofs.ToOne.One.{key_numbered}

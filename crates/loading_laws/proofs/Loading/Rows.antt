@@ -32,11 +32,11 @@ use Rattle.load_selects.specs.declared.sources.Further.{Further}
 use Rattle.load_selects.specs.Branches.{discriminator_column, discriminator_of, identities, is_of_branch, names_branch}
 use Rattle.load_selects.specs.Selects.{class_rows, inner_joined, item_of, origin_of, select_of}
 use Rattle.load_selects.specs.Sources.{other_tables}
-use Rattle.load_laws.proofs.ClassLemmas.{rows_plain, sources_are}
+use Rattle.collection_selects.proofs.ClassLemmas.{rows_plain, sources_are}
 use Rattle.main_selects.specs.MainSelect.{main_select}
 use Rattle.load_queries.specs.Queries.{ReadsObjects}
 use Rattle.load_calls.specs.Reading.{World}
-use Rattle.legality_laws.proofs.HeldRows.{fitting_rows, legal_rows}
+use Rattle.table_laws.proofs.HeldRows.{fitting_rows, legal_rows}
 use Rattle.loading_laws.specs.Answers.Answers.{AreRowsOf}
 use Rattle.loading_laws.proofs.Answers.Values.{all_value, column_value}
 use Rattle.loading_laws.proofs.Members.Choices.{Tie, joined_where}

@@ -26,7 +26,7 @@ use Rattle.class_mapping.specs.Paired.{IsAt, is_at_or_under}
 use Rattle.class_mapping.specs.Related.{IsRelated, has_keys, many_side}
 use Rattle.class_mapping.proofs.Having.{Has, has_at, some_of, true_false}
 use Rattle.mapping_laws.specs.Hierarchies.{HasHierarchies}
-use Rattle.programs.specs.Store.{Store}
+use Rattle.keeper_core.specs.Store.{Store}
 use Rattle.object_arena.specs.declared.object.Cell.{Cell}
 use Rattle.object_arena.specs.declared.object.Object.{Object}
 use Rattle.object_arena.specs.declared.object.State.TheVariants.{Persistent}
@@ -34,16 +34,16 @@ use Rattle.object_arena.specs.Fit.{ObjectFits, cell_fits, no_relation, relation_
 use Rattle.object_arena.specs.Graph.{Graph, no_object, object_at, place_of}
 use Rattle.object_arena.specs.Identity.{find_identity}
 use Rattle.load_columns.specs.Placing.{attribute_columns, foreign_numbers, from_root, place_of_table, rank_of, table_at_rank}
-use Rattle.load_laws.proofs.ClassLemmas.{rank_is}
-use Rattle.load_laws.proofs.MemberLemmas.{RefersTo}
-use Rattle.load_laws.proofs.Placed.{rank_finds}
+use Rattle.collection_selects.proofs.ClassLemmas.{rank_is}
+use Rattle.collection_selects.proofs.MemberLemmas.{RefersTo}
+use Rattle.collection_selects.proofs.Placed.{rank_finds}
 use Rattle.load_filling.specs.Rows.{row_key, value_in}
 use Rattle.load_rows.specs.Reading.{identity_key}
 use Rattle.load_calls.specs.Reading.{World}
 use Rattle.load_targets.specs.ForeignKeys.{foreign_attrs, is_expired_among, is_key_expired, value_at, value_of}
 use Rattle.load_ends.specs.Ends.{key_of}
 use Rattle.load_queries.specs.Queries.{load_select}
-use Rattle.legality_laws.specs.Legality.{AreSound}
+use Rattle.table_laws.specs.Legality.{AreSound}
 use Rattle.loading_laws.specs.Answers.Answers.{AreRowsOf}
 use Rattle.loading_laws.proofs.Members.Choices.{Choice, chosen, every_has, pointwise_long}
 use Rattle.loading_laws.proofs.Members.Owned.{AreHeld, attribute_ranked, class_known, numbers_chosen, root_there, row_key_is, row_own}

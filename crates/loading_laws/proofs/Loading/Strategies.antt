@@ -15,8 +15,8 @@ use Rattle.sql_semantics.specs.Shapes.{AreLegalRows, AreRows}
 use Rattle.class_types.specs.declared.mapped.Relation.{Relation}
 use Rattle.class_mapping.specs.Mapped.{Mapped, root_of}
 use Rattle.class_mapping.proofs.Having.{Has, all_from, any_has, from_flat, has_flat, some_of}
-use Rattle.programs.specs.Programs.{give}
-use Rattle.programs.specs.Store.{Store}
+use Rattle.keeper_core.specs.Programs.{give}
+use Rattle.keeper_core.specs.Store.{Store}
 use Rattle.object_arena.specs.declared.object.Link.{Link}
 use Rattle.object_arena.specs.declared.object.State.{State}
 use Rattle.object_arena.specs.Fit.{IsFit, relation_of}
@@ -24,12 +24,12 @@ use Rattle.object_arena.specs.Graph.{Graph, is_among, is_persistent, object_at}
 use Rattle.object_arena.specs.Identity.{find_identity}
 use Rattle.relations.specs.Mirror.{is_of}
 use Rattle.load_rows.specs.Reading.{identity_key}
-use Rattle.load_links.specs.Links.{link_at}
+use Rattle.load_rows.specs.Links.{link_at}
 use Rattle.load_calls.specs.Reading.{World}
 use Rattle.load_batches.specs.Batches.{is_unloaded}
 use Rattle.load_ends.specs.Ends.{key_of}
 use Rattle.load_queries.specs.Queries.{load_select}
-use Rattle.load_selectin.specs.Selectin.{if_owner, is_owner, load_objects, load_options, owners_among, with_options}
+use Rattle.load_queries.specs.Selectin.{if_owner, is_owner, load_objects, load_options, owners_among, with_options}
 use Rattle.loading_laws.proofs.Members.Choices.{every_has}
 use Rattle.loading_laws.specs.Strategies.Filled.{Goes}
 use Rattle.loading_laws.proofs.Strategies.Goes.{given, parted, same_answer}

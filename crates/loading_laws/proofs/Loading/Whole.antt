@@ -16,8 +16,8 @@ use Rattle.class_types.specs.declared.mapped.Relation.{Relation}
 use Rattle.class_mapping.specs.Mapped.{Mapped, relations_of, root_of}
 use Rattle.class_mapping.specs.Related.{IsRelated}
 use Rattle.class_mapping.proofs.Having.{Has, from_map}
-use Rattle.programs.specs.Beside.{on_own}
-use Rattle.programs.specs.Store.{Store}
+use Rattle.keeper_core.specs.Beside.{on_own}
+use Rattle.keeper_core.specs.Store.{Store}
 use Rattle.object_arena.specs.declared.object.Link.{Link}
 use Rattle.object_arena.specs.Fit.{relation_of}
 use Rattle.object_arena.specs.Graph.{Graph, is_among}
@@ -26,13 +26,13 @@ use Rattle.object_arena.proofs.GraphLemmas.{same_equiv}
 use Rattle.main_selects.specs.MainSelect.{main_select}
 use Rattle.load_filling.specs.Rows.{row_key}
 use Rattle.load_rows.specs.Reading.{identity_key}
-use Rattle.load_links.specs.Links.{link_at}
+use Rattle.load_rows.specs.Links.{link_at}
 use Rattle.load_calls.specs.Reading.{World, read}
 use Rattle.load_batches.specs.Batches.{is_unloaded}
 use Rattle.load_ends.specs.Ends.{with_first}
 use Rattle.load_queries.specs.Queries.{load_select, take_objects}
 use Rattle.joined_rows.specs.Parts.{parts_of}
-use Rattle.load_joined.specs.Joined.{load_joined, take_answers}
+use Rattle.load_queries.specs.Joined.{load_joined, take_answers}
 use Rattle.load_targets.specs.Targets.{load_lazy}
 use Rattle.loading_laws.specs.Answers.Answers.{AreRowsOf}
 use Rattle.loading_laws.specs.Wide.Answers.{AreBlocks, CanBeJoined, CutsOwners, HasOnePartner}

@@ -12,7 +12,7 @@ use Rattle.schema_core.proofs.Names.{same_names}
 use Rattle.class_mapping.proofs.Having.{Has, has_at}
 use Rattle.class_mapping.proofs.RelatedKeys.{find_has}
 use Rattle.mapping_laws.proofs.Tables.{twice_not}
-use Rattle.load_laws.proofs.Pairs.Led.{was_false}
+use Rattle.collection_selects.proofs.Pairs.Led.{was_false}
 use Rattle.alias_names.specs.Names.{alias_of, free_alias, is_free}
 
 abbrev Names : Type 0

@@ -26,9 +26,9 @@ use Rattle.load_columns.specs.declared.placing.SourceColumn.{SourceColumn}
 use Rattle.load_columns.specs.Conditions.{column_of, conjoined}
 use Rattle.load_selects.specs.declared.sources.Further.{Further}
 use Rattle.load_selects.specs.Selects.{item_of}
-use Rattle.load_laws.proofs.Plain.{IsColumn}
-use Rattle.load_laws.proofs.Standing.{column_stands}
-use Rattle.load_laws.proofs.Pairs.Led.{was_false}
+use Rattle.collection_selects.proofs.Plain.{IsColumn}
+use Rattle.collection_selects.proofs.Standing.{column_stands}
+use Rattle.collection_selects.proofs.Pairs.Led.{was_false}
 use Rattle.main_selects.specs.MainSelect.{left_joined, with_items, with_left_join, with_shifted}
 use Rattle.main_selects.specs.Shifted.{shifted}
 use Rattle.joined_rows.proofs.Widening.{count_sources}

@@ -37,15 +37,15 @@ use Rattle.load_selects.specs.declared.sources.Further.{Further}
 use Rattle.load_selects.specs.Branches.{discriminator_column, discriminator_of, identities, is_of_branch, names_branch}
 use Rattle.load_selects.specs.Selects.{origin_of}
 use Rattle.load_selects.specs.Sources.{keyed_source, leading_by, ranked_source, referred_source, referring_source, related_sources, target_placement, tied_by}
-use Rattle.load_laws.proofs.ClassLemmas.{placed_before}
-use Rattle.load_laws.proofs.Keys.{key_typed}
-use Rattle.load_laws.proofs.MemberLemmas.{referring_within}
-use Rattle.load_laws.proofs.Placed.{StandsAt, attributes_there}
-use Rattle.load_laws.proofs.Plain.{AreTied, IsColumn, IsPart, all_stand, all_whole}
-use Rattle.load_laws.proofs.Standing.{and_stands, as_filter}
-use Rattle.load_laws.proofs.Typed.{AreTyped}
+use Rattle.collection_selects.proofs.ClassLemmas.{placed_before}
+use Rattle.collection_selects.proofs.Keys.{key_typed}
+use Rattle.collection_selects.proofs.MemberLemmas.{referring_within}
+use Rattle.collection_selects.proofs.Placed.{StandsAt, attributes_there}
+use Rattle.collection_selects.proofs.Plain.{AreTied, IsColumn, IsPart, all_stand, all_whole}
+use Rattle.collection_selects.proofs.Standing.{and_stands, as_filter}
+use Rattle.collection_selects.proofs.Typed.{AreTyped}
 use Rattle.load_queries.specs.Queries.{ReadsObjects}
-use Rattle.load_laws.proofs.Pairs.Plainness.{secondary_of}
+use Rattle.collection_selects.proofs.Pairs.Plainness.{secondary_of}
 use Rattle.main_selects.specs.MainSelect.{further_count, further_keys, left_joined, main_select, option_columns, option_sources, with_joined, with_left_join, with_shifted, within_branch}
 use Rattle.main_selects.specs.Shifted.{shifted}
 use Rattle.joined_rows.proofs.Targets.{target_stands}

@@ -25,10 +25,10 @@ use Rattle.mapping_laws.proofs.Ties.{table_faultless}
 use Rattle.load_columns.specs.declared.placing.SourceColumn.{SourceColumn}
 use Rattle.load_columns.specs.Placing.{columns_at, foreign_numbers, key_numbers, referred_table}
 use Rattle.load_selects.specs.Sources.{refers}
-use Rattle.load_laws.proofs.Keys.{IsAt, key_some, key_typed}
-use Rattle.load_laws.proofs.MemberLemmas.{RefersTo, among_has, foreign_typed, referred, referred_is}
-use Rattle.load_laws.proofs.Plain.{IsPart}
-use Rattle.load_laws.proofs.Typed.{AreTyped, equal_some, equal_stand, typed_long}
+use Rattle.collection_selects.proofs.Keys.{IsAt, key_some, key_typed}
+use Rattle.collection_selects.proofs.MemberLemmas.{RefersTo, among_has, foreign_typed, referred, referred_is}
+use Rattle.collection_selects.proofs.Plain.{IsPart}
+use Rattle.collection_selects.proofs.Typed.{AreTyped, equal_some, equal_stand, typed_long}
 
 -- ---- the class that declares a relationship
 

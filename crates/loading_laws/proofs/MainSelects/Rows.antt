@@ -17,7 +17,7 @@ use Rattle.class_mapping.proofs.MappingLemmas.{keys_inside}
 use Rattle.object_arena.specs.Graph.{Graph, object_at}
 use Rattle.object_arena.specs.Identity.{find_identity}
 use Rattle.relations.specs.Parents.{is_column}
-use Rattle.programs.specs.Programs.{Run, quiet}
+use Rattle.keeper_core.specs.Programs.{Run, quiet}
 use Rattle.load_selects.specs.Branches.{branch, discriminator_of}
 use Rattle.load_filling.specs.Filled.{Found}
 use Rattle.load_filling.specs.Rows.{class_by, class_named, found_or_loaded, has_identity, loaded_as, row_key, row_object, value_in}

@@ -20,7 +20,7 @@ use Rattle.expr_types.proofs.Folds.{bare, by_levels}
 use Rattle.expr_types.proofs.Operands.{operands_map}
 use Rattle.sql_semantics.specs.Kinds.{Judged, Scope, all_alike, all_of, call_kind, column_in, expression_kind, gives, in_scope, judged_level, kind_where, value_kind}
 use Rattle.sql_semantics.specs.Plain.{adds_name, fits, fits_level, full_level, has_full_lists, name_of, names_apart, takes}
-use Rattle.load_laws.proofs.Pairs.Led.{was_false}
+use Rattle.collection_selects.proofs.Pairs.Led.{was_false}
 use Rattle.main_selects.specs.Shifted.{shifted, shifted_place}
 use Rattle.alias_names.specs.Names.{exists_names, names_at, own_names}
 use Rattle.loading_laws.proofs.Wide.Levels.{between, every_one, fold_moved, fold_stays, get_shifted, moved}

@@ -21,7 +21,7 @@ use Rattle.sql_semantics.specs.Plain.{adds_name, fits, is_given, name_of, names_
 use Rattle.sql_semantics.proofs.Equations.{fits-Column, fits-InList, judged-Column, judged-InList}
 use Rattle.load_columns.specs.declared.placing.SourceColumn.{SourceColumn}
 use Rattle.load_columns.specs.Conditions.{column_of, equal_column, equal_columns, is_in}
-use Rattle.load_laws.proofs.Plain.{IsPart}
+use Rattle.collection_selects.proofs.Plain.{IsPart}
 
 abbrev Names : Type 0
 Names = List (List ℕ)

@@ -26,12 +26,12 @@ use Rattle.load_selects.specs.declared.sources.Further.{Further}
 use Rattle.load_selects.specs.Branches.{discriminator_column, discriminator_of, identities, is_of_branch, names_branch}
 use Rattle.load_selects.specs.Selects.{origin_of}
 use Rattle.load_selects.specs.Sources.{first_behind, leading_by, leading_table, other_tables, referred_place, referred_source, referring_source, refers, related_sources, target_placement, tied_by}
-use Rattle.load_laws.proofs.Keys.{IsAt}
-use Rattle.load_laws.proofs.MemberLemmas.{RefersTo, referred_is}
-use Rattle.load_laws.proofs.Placed.{StandsAt, at_more, branch_parts, rank_finds}
-use Rattle.load_laws.proofs.Plain.{AreTied, IsPart}
-use Rattle.load_laws.proofs.Pairs.Led.{all_tied, sources_behind}
-use Rattle.load_laws.proofs.Pairs.Plainness.{IsSecondary, secondary_of}
+use Rattle.collection_selects.proofs.Keys.{IsAt}
+use Rattle.collection_selects.proofs.MemberLemmas.{RefersTo, referred_is}
+use Rattle.collection_selects.proofs.Placed.{StandsAt, at_more, branch_parts, rank_finds}
+use Rattle.collection_selects.proofs.Plain.{AreTied, IsPart}
+use Rattle.collection_selects.proofs.Pairs.Led.{all_tied, sources_behind}
+use Rattle.collection_selects.proofs.Pairs.Plainness.{IsSecondary, secondary_of}
 use Rattle.main_selects.specs.MainSelect.{option_sources, within_branch}
 use Rattle.joined_rows.proofs.Targets.{target_stands}
 use Rattle.joined_rows.proofs.Widening.{joined_table, table_of}

@@ -12,12 +12,12 @@ use Rattle.expr_types.specs.declared.select.ObjectQuery.{ObjectQuery}
 use Rattle.expr_types.specs.declared.select.Select.{Select}
 use Rattle.class_mapping.specs.Mapped.{Mapped}
 use Rattle.object_arena.specs.Graph.{Graph}
-use Rattle.programs.specs.Beside.{on_own, quiet_run}
-use Rattle.programs.specs.Programs.{Run, ◌>>=◌, continue_from, each, give, with_events_before}
+use Rattle.keeper_core.specs.Beside.{on_own, quiet_run}
+use Rattle.keeper_core.specs.Programs.{Run, ◌>>=◌, continue_from, each, give, with_events_before}
 use Rattle.load_filling.specs.Rows.{row_object}
 use Rattle.load_rows.specs.Loading.{Loading, take_row, taken_as}
 use Rattle.load_calls.specs.Reading.{World, read}
-use Rattle.load_collections.specs.Collections.{take_next, take_rows}
+use Rattle.load_calls.specs.Collections.{take_next, take_rows}
 use Rattle.object_parts.specs.Lists.{firsts}
 use Rattle.load_queries.specs.Queries.{load_select, take_objects}
 use Rattle.main_selects.specs.MainSelect.{main_select, with_joined, with_shifted}
@@ -25,7 +25,7 @@ use Rattle.main_selects.specs.Shifted.{shifted}
 use Rattle.joined_rows.specs.Parts.{parts_of}
 use Rattle.object_parts.specs.declared.answers.Taken.{Taken}
 use Rattle.joined_rows.specs.Taking.{take_joined, take_members, take_one, take_owner, taken_with}
-use Rattle.load_joined.specs.Joined.{fill_options, fill_owners, fill_taken, load_joined, take_answers}
+use Rattle.load_queries.specs.Joined.{fill_options, fill_owners, fill_taken, load_joined, take_answers}
 use Rattle.loading_laws.proofs.Wide.Levels.{unshifted}
 use Rattle.loading_laws.proofs.MainSelects.Rows.{row_same}
 

@@ -29,10 +29,10 @@ use Rattle.mapping_laws.proofs.Ties.{class_tables}
 use Rattle.load_columns.specs.declared.placing.Placement.{Placement}
 use Rattle.load_columns.specs.declared.placing.SourceColumn.{SourceColumn}
 use Rattle.load_columns.specs.Placing.{attribute_columns, column_at, columns_at, foreign_numbers, from_root, key_at_rank, key_numbers, place_at_rank, rank_of, table_at_rank}
-use Rattle.load_laws.proofs.ClassLemmas.{rank_is, rows_plain}
-use Rattle.load_laws.proofs.MemberLemmas.{RefersTo, foreign_typed, owned_kinds}
-use Rattle.load_laws.proofs.Placed.{rank_finds}
-use Rattle.load_laws.proofs.Typed.{typed_long}
+use Rattle.collection_selects.proofs.ClassLemmas.{rank_is, rows_plain}
+use Rattle.collection_selects.proofs.MemberLemmas.{RefersTo, foreign_typed, owned_kinds}
+use Rattle.collection_selects.proofs.Placed.{rank_finds}
+use Rattle.collection_selects.proofs.Typed.{typed_long}
 use Rattle.load_selects.specs.declared.sources.Further.{Further}
 use Rattle.load_selects.specs.Branches.{discriminator_column, is_of_branch}
 use Rattle.load_selects.specs.Selects.{origin_of, select_of}

@@ -33,20 +33,20 @@ use Rattle.load_columns.specs.declared.placing.Placement.{Placement}
 use Rattle.load_columns.specs.declared.placing.SourceColumn.{SourceColumn}
 use Rattle.load_columns.specs.Conditions.{column_of, has_one_of, has_values}
 use Rattle.load_columns.specs.Placing.{attribute_columns, column_at, columns_at, foreign_numbers, from_root, key_numbers, place_at_rank, place_of_table, rank_of, referred_table}
-use Rattle.load_laws.proofs.ClassLemmas.{rank_is}
-use Rattle.load_laws.proofs.Keys.{key_fits}
-use Rattle.load_laws.proofs.MemberLemmas.{referred_is}
-use Rattle.load_laws.proofs.PairLemmas.{members_are_plain}
-use Rattle.load_laws.proofs.Placed.{rank_finds}
-use Rattle.load_laws.proofs.Standing.{is_of}
+use Rattle.collection_selects.proofs.ClassLemmas.{rank_is}
+use Rattle.collection_selects.proofs.Keys.{key_fits}
+use Rattle.collection_selects.proofs.MemberLemmas.{referred_is}
+use Rattle.collection_selects.proofs.PairLemmas.{members_are_plain}
+use Rattle.collection_selects.proofs.Placed.{rank_finds}
+use Rattle.collection_selects.proofs.Standing.{is_of}
 use Rattle.load_selects.specs.declared.sources.Further.{Further}
 use Rattle.load_selects.specs.Branches.{discriminator_column, is_of_branch}
 use Rattle.load_selects.specs.Selects.{select_of}
 use Rattle.load_selects.specs.Sources.{leading_by, other_tables, referred_place, refers}
 use Rattle.load_filling.specs.Rows.{row_key}
 use Rattle.collection_selects.specs.Collections.{batch_by, batch_select, members_by, members_select, pair_columns, secondary_behind}
-use Rattle.load_laws.specs.Pairs.{owner_width, owner_width_by}
-use Rattle.load_laws.proofs.Pairs.Plainness.{IsSecondary, batch_is_plain, secondary_of}
+use Rattle.collection_selects.specs.Pairs.{owner_width, owner_width_by}
+use Rattle.collection_selects.proofs.Pairs.Plainness.{IsSecondary, batch_is_plain, secondary_of}
 use Rattle.loading_laws.specs.Answers.Answers.{value_at}
 use Rattle.loading_laws.specs.Answers.Equal.{are_equal, equals_key}
 use Rattle.loading_laws.proofs.Answers.Conditions.{AreLong, equals_some, key_tests, keys_tests}

@@ -32,10 +32,10 @@ use Rattle.load_columns.specs.declared.placing.Placement.{Placement}
 use Rattle.load_columns.specs.declared.placing.SourceColumn.{SourceColumn}
 use Rattle.load_columns.specs.Conditions.{is_in}
 use Rattle.load_columns.specs.Placing.{attribute_column, attribute_columns, column_at, columns_at, from_root, key_at_rank, key_numbers, place_at_rank, rank_of, table_at_rank}
-use Rattle.load_laws.proofs.ClassLemmas.{rank_is}
-use Rattle.load_laws.proofs.Keys.{key_typed}
-use Rattle.load_laws.proofs.MemberLemmas.{kinds_along}
-use Rattle.load_laws.proofs.Typed.{typed_long}
+use Rattle.collection_selects.proofs.ClassLemmas.{rank_is}
+use Rattle.collection_selects.proofs.Keys.{key_typed}
+use Rattle.collection_selects.proofs.MemberLemmas.{kinds_along}
+use Rattle.collection_selects.proofs.Typed.{typed_long}
 use Rattle.load_selects.specs.declared.sources.Further.{Further}
 use Rattle.load_selects.specs.Branches.{discriminator_column, discriminator_of, identities, is_of_branch, names_branch}
 use Rattle.load_selects.specs.Selects.{origin_of}

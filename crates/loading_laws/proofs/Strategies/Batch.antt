@@ -19,9 +19,9 @@ use Rattle.class_types.specs.declared.mapped.Relation.{Relation}
 use Rattle.class_sides.specs.Keys.{TableKey}
 use Rattle.class_mapping.specs.Mapped.{Mapped, root_of}
 use Rattle.class_mapping.specs.Paired.{HasPairs}
-use Rattle.programs.specs.Beside.{on_own}
-use Rattle.programs.specs.Store.{Store}
-use Rattle.programs.specs.Programs.{each, give}
+use Rattle.keeper_core.specs.Beside.{on_own}
+use Rattle.keeper_core.specs.Store.{Store}
+use Rattle.keeper_core.specs.Programs.{each, give}
 use Rattle.object_arena.specs.declared.object.Link.{Link}
 use Rattle.object_arena.specs.declared.object.Link.TheVariants.{Unset, Unloaded, One, Many}
 use Rattle.object_arena.specs.declared.object.Object.{Object}
@@ -33,11 +33,11 @@ use Rattle.load_selects.specs.Selects.{class_rows}
 use Rattle.load_filling.specs.Rows.{row_key, value_in}
 use Rattle.load_rows.specs.Loading.{Loading, take_row}
 use Rattle.load_rows.specs.Reading.{identity_key}
-use Rattle.load_links.specs.Links.{collection_filled, collection_of, in_key_order, link_at, linked, with_loaded}
+use Rattle.load_rows.specs.Links.{collection_filled, collection_of, in_key_order, link_at, linked, with_loaded}
 use Rattle.load_calls.specs.Reading.{World, read}
-use Rattle.load_collections.specs.Collections.{load_collection}
+use Rattle.load_calls.specs.Collections.{load_collection}
 use Rattle.load_batches.specs.Batches.{batch_at, batch_size, batch_starts, fill_batch, fill_owner, fill_owners, is_unloaded, keys_of, filled_by_batch, load_batch, load_batches, load_each, load_from, load_members, member_of, members_under, objects_in, owner_key_in, owner_places_by, read_batch, take_member, take_members, target_values, unloaded_owner, unloaded_owners, with_key as with_owner_key}
-use Rattle.load_laws.specs.Pairs.{owner_width_by}
+use Rattle.collection_selects.specs.Pairs.{owner_width_by}
 use Rattle.load_batches.specs.declared.members.Member.{Member}
 use Rattle.load_batches.specs.declared.owners.Owner.{Owner}
 use Rattle.loading_laws.specs.Answers.Answers.{IsKeyOf}

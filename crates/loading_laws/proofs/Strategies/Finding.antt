@@ -19,7 +19,7 @@ use Rattle.class_mapping.specs.Mapped.{IsClass, Mapped, relations_of, root_of}
 use Rattle.class_mapping.specs.Paired.{is_at_or_under}
 use Rattle.class_mapping.proofs.Having.{place_in_map}
 use Rattle.mapping_laws.specs.Hierarchies.{HasHierarchies}
-use Rattle.programs.specs.Programs.{each, give}
+use Rattle.keeper_core.specs.Programs.{each, give}
 use Rattle.object_arena.specs.declared.object.Cell.{Cell}
 use Rattle.object_arena.specs.declared.object.Link.{Link}
 use Rattle.object_arena.specs.declared.object.Link.TheVariants.{Unloaded}
@@ -33,7 +33,7 @@ use Rattle.load_filling.specs.Filled.{Found, cell_read, filled_cell, filled_obje
 use Rattle.load_filling.specs.Loaded.{load, loaded_object, with_loaded}
 use Rattle.load_filling.specs.Rows.{class_named, found_or_loaded, loaded_as, row_key, row_object}
 use Rattle.load_rows.specs.Loading.{Loading, filled, found_in_row, take_row, taken_as}
-use Rattle.load_collections.specs.Collections.{take_next, take_rows}
+use Rattle.load_calls.specs.Collections.{take_next, take_rows}
 use Rattle.load_targets.specs.ForeignKeys.{value_of}
 use Rattle.loading_laws.proofs.Members.Ranks.{same_equal}
 use Rattle.loading_laws.specs.Strategies.Filled.{Goes}

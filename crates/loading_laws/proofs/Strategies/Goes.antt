@@ -10,15 +10,15 @@ use Rattle.sql_semantics.specs.Created.{bare}
 use Rattle.sql_semantics.specs.Rows.{answer}
 use Rattle.class_mapping.specs.Mapped.{Mapped, root_of}
 use Rattle.class_mapping.specs.Paired.{HasPairs}
-use Rattle.programs.specs.Programs.{Event, Run, ◌>>=◌, change, continue_from, each, give}
-use Rattle.programs.specs.Beside.{Beside, by_own, changes, on_own, on_store}
+use Rattle.keeper_core.specs.Programs.{Event, Run, ◌>>=◌, change, continue_from, each, give}
+use Rattle.keeper_core.specs.Beside.{Beside, by_own, changes, on_own, on_store}
 use Rattle.keeper_core.specs.Calls.{query}
 use Rattle.object_arena.specs.Graph.{Graph, object_at}
 use Rattle.load_filling.specs.Filled.{Found, with_filled}
 use Rattle.load_filling.specs.Rows.{row_key, row_object}
 use Rattle.load_rows.specs.Loading.{Loading, found_in_row, take_row, taken_as, filled}
 use Rattle.load_calls.specs.Reading.{World, read}
-use Rattle.load_collections.specs.Collections.{take_next, take_rows}
+use Rattle.load_calls.specs.Collections.{take_next, take_rows}
 use Rattle.loading_laws.specs.Strategies.Filled.{Goes}
 use Rattle.loading_laws.specs.Strategies.Standing.{Keeps, Stands}
 use Rattle.loading_laws.proofs.Strategies.Standing.{IsTaken, filled_taken, keeps_same, keeps_then, row_object_taken}

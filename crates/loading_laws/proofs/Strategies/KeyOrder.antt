@@ -20,7 +20,7 @@ use Rattle.object_arena.specs.Graph.{Graph, is_persistent, object_at, root_at}
 use Rattle.object_arena.specs.Identity.{has_key}
 use Rattle.load_filling.specs.Rows.{row_key}
 use Rattle.load_rows.specs.Reading.{identity_key}
-use Rattle.load_links.specs.Links.{in_key_order, with_key as with_object}
+use Rattle.load_rows.specs.Links.{in_key_order, with_key as with_object}
 use Rattle.loading_laws.proofs.Members.Ranks.{same_equal}
 use Rattle.loading_laws.specs.Strategies.Filled.{keys_in_order, with_key}
 use Rattle.loading_laws.specs.Strategies.Standing.{Stands}

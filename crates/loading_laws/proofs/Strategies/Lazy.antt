@@ -14,7 +14,7 @@ use Rattle.class_types.specs.declared.mapped.Relation.{Relation}
 use Rattle.class_sides.specs.Keys.{TableKey}
 use Rattle.class_mapping.specs.Mapped.{Mapped, root_of}
 use Rattle.class_mapping.specs.Paired.{HasPairs}
-use Rattle.programs.specs.Beside.{by_own, changes, on_own}
+use Rattle.keeper_core.specs.Beside.{by_own, changes, on_own}
 use Rattle.object_arena.specs.declared.object.Link.{Link}
 use Rattle.object_arena.specs.declared.object.Link.TheVariants.{Unset, Unloaded, One, Many}
 use Rattle.object_arena.specs.Graph.{Graph, IsLink, IsObject, object_at, with_link}
@@ -22,9 +22,9 @@ use Rattle.collection_selects.specs.Collections.{members_by, members_select, own
 use Rattle.load_filling.specs.Rows.{row_key}
 use Rattle.load_rows.specs.Loading.{Loading}
 use Rattle.load_rows.specs.Reading.{identity_key}
-use Rattle.load_links.specs.Links.{collection_filled, collection_of, in_key_order, link_at, linked, with_loaded}
+use Rattle.load_rows.specs.Links.{collection_filled, collection_of, in_key_order, link_at, linked, with_loaded}
 use Rattle.load_calls.specs.Reading.{World, read}
-use Rattle.load_collections.specs.Collections.{load_collection, read_members, take_members, take_rows}
+use Rattle.load_calls.specs.Collections.{load_collection, read_members, take_members, take_rows}
 use Rattle.load_batches.specs.Batches.{is_unloaded}
 use Rattle.loading_laws.proofs.Answers.Filters.{rows_of_key}
 use Rattle.loading_laws.specs.Strategies.Filled.{Goes, HoldsRelated, IsFilled, IsOneToMany, IsWaiting, Stage, key_of_owner, keys_in_order, related_rows}

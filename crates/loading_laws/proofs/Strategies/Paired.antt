@@ -16,11 +16,11 @@ use Rattle.object_arena.specs.Graph.{Graph, is_among}
 use Rattle.object_arena.proofs.GraphLemmas.{same_equiv}
 use Rattle.load_filling.specs.Rows.{row_key, value_in}
 use Rattle.load_rows.specs.Reading.{identity_key}
-use Rattle.load_links.specs.Links.{link_at}
+use Rattle.load_rows.specs.Links.{link_at}
 use Rattle.load_calls.specs.Reading.{World}
-use Rattle.load_collections.specs.Collections.{load_collection}
+use Rattle.load_calls.specs.Collections.{load_collection}
 use Rattle.load_batches.specs.Batches.{keys_of, load_members, owner_key_in, owner_places_by, place_numbered, target_values}
-use Rattle.load_laws.specs.Pairs.{owner_width}
+use Rattle.collection_selects.specs.Pairs.{owner_width}
 use Rattle.loading_laws.proofs.Answers.Totals.{filter_same, map_twice}
 use Rattle.loading_laws.specs.Members.{first_values, paired_rows, rows_under}
 use Rattle.loading_laws.proofs.Members.Paired.{batch_paired, members_paired}

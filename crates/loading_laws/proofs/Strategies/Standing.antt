@@ -29,12 +29,12 @@ use Rattle.object_arena.specs.Identity.{find_identity, has_key, holds, holds_at,
 use Rattle.object_arena.proofs.GraphLemmas.{same_equiv}
 use Rattle.object_arena.proofs.HolderLemmas.{place_holds}
 use Rattle.object_arena.proofs.TurnLemmas.{at_with}
-use Rattle.load_laws.proofs.Placed.{branch_under}
+use Rattle.collection_selects.proofs.Placed.{branch_under}
 use Rattle.load_selects.specs.Branches.{branch, class_ids, discriminator_of, is_under}
 use Rattle.load_filling.specs.Filled.{Found, filled_object, with_filled}
 use Rattle.load_filling.specs.Loaded.{load, loaded_object, with_loaded}
 use Rattle.load_filling.specs.Rows.{class_by, class_named, found_or_loaded, has_identity, loaded_as, row_key, row_object, value_named}
-use Rattle.load_links.specs.Links.{link_at}
+use Rattle.load_rows.specs.Links.{link_at}
 use Rattle.loading_laws.specs.Strategies.Standing.{Keeps, Stands, Stays}
 
 -- ---- a view of the items of a list, with one of them replaced

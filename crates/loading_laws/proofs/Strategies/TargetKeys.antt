@@ -18,9 +18,9 @@ use Rattle.mapping_laws.specs.Hierarchies.{kinds_of}
 use Rattle.mapping_laws.proofs.Ties.{class_tables}
 use Rattle.object_arena.specs.declared.object.Object.{Object}
 use Rattle.load_columns.specs.Placing.{column_at, column_named, columns_at, foreign_numbers, from_root, key_numbers, place_at_rank, root_key}
-use Rattle.load_laws.proofs.Keys.{key_typed}
-use Rattle.load_laws.proofs.MemberLemmas.{foreign_typed, owned_kinds, referred}
-use Rattle.load_laws.proofs.Typed.{typed_long}
+use Rattle.collection_selects.proofs.Keys.{key_typed}
+use Rattle.collection_selects.proofs.MemberLemmas.{foreign_typed, owned_kinds, referred}
+use Rattle.collection_selects.proofs.Typed.{typed_long}
 use Rattle.load_selects.specs.Selects.{origin_of}
 use Rattle.load_targets.specs.ForeignKeys.{attr_named, foreign_attrs, foreign_key, value_at as held_at}
 use Rattle.loading_laws.specs.Strategies.Ends.{IsManyToOne}

@@ -12,8 +12,8 @@ use Rattle.sql_semantics.specs.Rows.{answer}
 use Rattle.class_types.specs.declared.mapped.Relation.{Relation}
 use Rattle.class_mapping.specs.Mapped.{Mapped, root_of}
 use Rattle.mapping_laws.proofs.Ties.{class_tables}
-use Rattle.programs.specs.Programs.{give}
-use Rattle.programs.specs.Beside.{by_own, changes, on_own}
+use Rattle.keeper_core.specs.Programs.{give}
+use Rattle.keeper_core.specs.Beside.{by_own, changes, on_own}
 use Rattle.object_arena.specs.declared.object.Link.{Link}
 use Rattle.object_arena.specs.declared.object.Link.TheVariants.{Unset, Unloaded, One, Many}
 use Rattle.object_arena.specs.Graph.{Graph, IsLink, IsObject, object_at, with_link}
@@ -24,7 +24,7 @@ use Rattle.load_columns.specs.Placing.{from_root, root_key}
 use Rattle.load_selects.specs.Selects.{class_rows, key_select}
 use Rattle.load_filling.specs.Rows.{row_key}
 use Rattle.load_rows.specs.Loading.{Loading, take_row}
-use Rattle.load_links.specs.Links.{end_filled, end_of, link_at, with_loaded}
+use Rattle.load_rows.specs.Links.{end_filled, end_of, link_at, with_loaded}
 use Rattle.load_calls.specs.Reading.{World, read}
 use Rattle.load_targets.specs.ForeignKeys.{foreign_key, is_key_expired}
 use Rattle.load_targets.specs.Targets.{find_or_load, found_or_load, if_of, load_end, load_key, load_target, read_target, refresh_if, refresh_key, take_first}

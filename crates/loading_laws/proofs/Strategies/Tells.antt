@@ -31,7 +31,7 @@ use Rattle.class_mapping.proofs.Lists.{or_right}
 use Rattle.mapping_laws.proofs.Attributes.{of_column}
 use Rattle.mapping_laws.proofs.Tables.{tables_declared}
 use Rattle.mapping_laws.proofs.Ties.{table_faultless}
-use Rattle.load_laws.proofs.MemberLemmas.{among_has}
+use Rattle.collection_selects.proofs.MemberLemmas.{among_has}
 use Rattle.relations.specs.Parents.{is_column}
 use Rattle.load_columns.specs.declared.placing.SourceColumn.{SourceColumn}
 use Rattle.load_columns.specs.Placing.{attribute_column, attribute_columns, column_at, column_named, columns_at, foreign_numbers, from_root, place_of_table}

@@ -23,9 +23,9 @@ use Rattle.class_mapping.specs.Mapped.{Mapped, root_of}
 use Rattle.class_mapping.specs.Paired.{is_at_or_under}
 use Rattle.class_mapping.proofs.Lists.{or_left, or_right}
 use Rattle.mapping_laws.proofs.Ties.{class_tables}
-use Rattle.programs.specs.Beside.{on_own}
-use Rattle.programs.specs.Programs.{◌>>=◌, each, give}
-use Rattle.programs.specs.Store.{Store}
+use Rattle.keeper_core.specs.Beside.{on_own}
+use Rattle.keeper_core.specs.Programs.{◌>>=◌, each, give}
+use Rattle.keeper_core.specs.Store.{Store}
 use Rattle.object_arena.specs.declared.object.Link.{Link}
 use Rattle.object_arena.specs.declared.object.Link.TheVariants.{Unset}
 use Rattle.object_arena.specs.declared.object.Object.{Object}
@@ -40,9 +40,9 @@ use Rattle.load_selects.specs.Selects.{class_rows, targets_select}
 use Rattle.load_filling.specs.Rows.{row_key}
 use Rattle.load_rows.specs.Loading.{Loading}
 use Rattle.load_rows.specs.Reading.{identity_key}
-use Rattle.load_links.specs.Links.{end_filled, end_of, link_at, with_loaded}
+use Rattle.load_rows.specs.Links.{end_filled, end_of, link_at, with_loaded}
 use Rattle.load_calls.specs.Reading.{World, read}
-use Rattle.load_collections.specs.Collections.{take_rows}
+use Rattle.load_calls.specs.Collections.{take_rows}
 use Rattle.load_targets.specs.ForeignKeys.{foreign_attrs, foreign_key, is_key_expired, value_at, value_of}
 use Rattle.load_targets.specs.Targets.{if_of, load_target}
 use Rattle.load_batches.specs.Batches.{batch_at, batch_starts, is_unloaded}

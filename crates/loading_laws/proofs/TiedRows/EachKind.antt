@@ -25,12 +25,12 @@ use Rattle.load_columns.specs.declared.placing.SourceColumn.{SourceColumn}
 use Rattle.load_columns.specs.Placing.{attribute_columns, columns_at, foreign_numbers, from_root, place_at_rank, place_of_table, rank_of, referred_table}
 use Rattle.load_selects.specs.Sources.{first_behind, leading_by, leading_table, target_placement}
 use Rattle.load_filling.specs.Rows.{row_key}
-use Rattle.load_laws.proofs.ClassLemmas.{rank_is}
-use Rattle.load_laws.proofs.MemberLemmas.{RefersTo}
-use Rattle.load_laws.proofs.Placed.{branch_under}
+use Rattle.collection_selects.proofs.ClassLemmas.{rank_is}
+use Rattle.collection_selects.proofs.MemberLemmas.{RefersTo}
+use Rattle.collection_selects.proofs.Placed.{branch_under}
 use Rattle.main_selects.specs.MainSelect.{option_sources}
 use Rattle.loading_laws.proofs.MainSelects.Referring.{HasKey, key_of, tables_under}
-use Rattle.load_laws.proofs.Pairs.Plainness.{IsSecondary, secondary_of}
+use Rattle.collection_selects.proofs.Pairs.Plainness.{IsSecondary, secondary_of}
 use Rattle.loading_laws.specs.Answers.Answers.{AreRowsOf}
 use Rattle.loading_laws.specs.Answers.Equal.{equals_key}
 use Rattle.loading_laws.specs.Members.{IsPaired, cells_of, paired_rows}

@@ -28,9 +28,9 @@ use Rattle.load_selects.specs.declared.sources.Further.{Further}
 use Rattle.load_selects.specs.Selects.{inner_joined, origin_of}
 use Rattle.load_selects.specs.Sources.{other_tables}
 use Rattle.load_filling.specs.Rows.{row_key}
-use Rattle.load_laws.proofs.ClassLemmas.{all_tied, placed_before, sources_are}
-use Rattle.load_laws.proofs.Placed.{StandsAt}
-use Rattle.load_laws.proofs.Plain.{AreTied}
+use Rattle.collection_selects.proofs.ClassLemmas.{all_tied, placed_before, sources_are}
+use Rattle.collection_selects.proofs.Placed.{StandsAt}
+use Rattle.collection_selects.proofs.Plain.{AreTied}
 use Rattle.joined_rows.specs.Parts.{own_values, parts_of, values_from, width_of}
 use Rattle.joined_rows.proofs.Widening.{table_of}
 use Rattle.joined_rows.specs.Taking.{has_target}

@@ -34,7 +34,7 @@ use Rattle.load_selects.specs.declared.sources.Further.{Further}
 use Rattle.load_selects.specs.Selects.{origin_of}
 use Rattle.load_selects.specs.Sources.{target_placement}
 use Rattle.load_filling.specs.Rows.{row_key, value_in}
-use Rattle.load_laws.proofs.Placed.{at_more}
+use Rattle.collection_selects.proofs.Placed.{at_more}
 use Rattle.main_selects.specs.MainSelect.{further_count, further_keys, option_columns, option_sources}
 use Rattle.joined_rows.specs.declared.parts.Part.{Part}
 use Rattle.joined_rows.specs.Parts.{option_width, own_values, part_at, part_from, parts_from, values_from, width_of}

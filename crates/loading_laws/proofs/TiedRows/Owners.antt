@@ -29,10 +29,10 @@ use Rattle.load_columns.specs.declared.placing.SourceColumn.{SourceColumn}
 use Rattle.load_columns.specs.Placing.{attribute_columns, columns_at, from_root, key_numbers, number_at, place_at_rank, place_of_table, rank_of, referred_table}
 use Rattle.load_selects.specs.Sources.{referred_place}
 use Rattle.load_filling.specs.Rows.{row_key}
-use Rattle.load_laws.proofs.ClassLemmas.{rank_is}
-use Rattle.load_laws.proofs.MemberLemmas.{RefersTo, referred_is}
-use Rattle.load_laws.proofs.Placed.{StandsAt, attributes_there, rank_finds}
-use Rattle.load_laws.proofs.Plain.{IsColumn}
+use Rattle.collection_selects.proofs.ClassLemmas.{rank_is}
+use Rattle.collection_selects.proofs.MemberLemmas.{RefersTo, referred_is}
+use Rattle.collection_selects.proofs.Placed.{StandsAt, attributes_there, rank_finds}
+use Rattle.collection_selects.proofs.Plain.{IsColumn}
 use Rattle.loading_laws.proofs.MainSelects.Referring.{tables_under}
 use Rattle.joined_rows.proofs.Widening.{table_of}
 use Rattle.loading_laws.proofs.Members.Choices.{Choice, chosen, row_of_table}

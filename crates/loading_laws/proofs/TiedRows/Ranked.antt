@@ -30,9 +30,9 @@ use Rattle.load_columns.specs.Placing.{attribute_columns, from_root, key_at_rank
 use Rattle.load_selects.specs.Branches.{discriminator_column}
 use Rattle.load_selects.specs.Sources.{leading_table, target_placement}
 use Rattle.load_filling.specs.Rows.{row_key}
-use Rattle.load_laws.proofs.ClassLemmas.{rank_is}
-use Rattle.load_laws.proofs.Keys.{key_some}
-use Rattle.load_laws.proofs.Placed.{StandsAt, rank_finds}
+use Rattle.collection_selects.proofs.ClassLemmas.{rank_is}
+use Rattle.collection_selects.proofs.Keys.{key_some}
+use Rattle.collection_selects.proofs.Placed.{StandsAt, rank_finds}
 use Rattle.main_selects.specs.MainSelect.{further_count, further_keys}
 use Rattle.loading_laws.proofs.MainSelects.Tied.{lead_inside}
 use Rattle.joined_rows.specs.Taking.{are_given}

@@ -17,7 +17,7 @@ use Rattle.load_selects.specs.declared.sources.Further.{Further}
 use Rattle.load_selects.specs.Branches.{is_of_branch}
 use Rattle.load_selects.specs.Selects.{origin_of}
 use Rattle.load_selects.specs.Sources.{first_behind, leading_by, other_tables, referred_place, referred_source, referring_source, related_sources, target_placement, tied_by}
-use Rattle.load_laws.proofs.Plain.{AreTied, IsPart}
+use Rattle.collection_selects.proofs.Plain.{AreTied, IsPart}
 use Rattle.main_selects.specs.MainSelect.{option_sources, within_branch}
 use Rattle.joined_rows.proofs.Widening.{table_of}
 use Rattle.loading_laws.proofs.Members.Choices.{Fit, Tie, joined_where}

@@ -39,8 +39,8 @@ use Rattle.load_columns.specs.declared.placing.SourceColumn.{SourceColumn}
 use Rattle.load_columns.specs.Placing.{column_at, columns_at, foreign_numbers, from_root, key_at_rank, key_numbers, number_at, place_at_rank, place_of_table, rank_of, referred_table}
 use Rattle.load_selects.specs.declared.sources.Further.{Further}
 use Rattle.load_selects.specs.Sources.{first_behind, leading_by, leading_table, rank_tied, target_placement}
-use Rattle.load_laws.proofs.MemberLemmas.{RefersTo}
-use Rattle.load_laws.proofs.Placed.{at_more, rank_finds}
+use Rattle.collection_selects.proofs.MemberLemmas.{RefersTo}
+use Rattle.collection_selects.proofs.Placed.{at_more, rank_finds}
 use Rattle.main_selects.specs.MainSelect.{option_sources}
 use Rattle.joined_rows.proofs.Widening.{table_of}
 use Rattle.loading_laws.proofs.MainSelects.Referring.{HasKey, declared_above, key_of as relation_key, tables_under}

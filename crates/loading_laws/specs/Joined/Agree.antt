@@ -13,13 +13,13 @@ use Rattle.class_mapping.specs.Mapped.{Mapped}
 use Rattle.object_arena.specs.Fit.{relation_of}
 use Rattle.object_arena.specs.Graph.{Graph}
 use Rattle.load_filling.specs.Rows.{row_key}
-use Rattle.load_links.specs.Links.{link_at}
+use Rattle.load_rows.specs.Links.{link_at}
 use Rattle.load_calls.specs.Reading.{World}
-use Rattle.load_collections.specs.Collections.{load_collection}
+use Rattle.load_calls.specs.Collections.{load_collection}
 use Rattle.load_targets.specs.Targets.{load_target}
 use Rattle.load_ends.specs.Ends.{key_of}
 use Rattle.load_queries.specs.Queries.{load_select}
-use Rattle.load_joined.specs.Joined.{load_joined}
+use Rattle.load_queries.specs.Joined.{load_joined}
 use Rattle.loading_laws.specs.Strategies.Filled.{AreAlike, Goes, IsOneToMany, IsWaiting, Stage}
 use Rattle.loading_laws.specs.Strategies.Ends.{IsManyToOne, IsPointing, LeadAlike, has_row, leads_to_one}
 use Rattle.loading_laws.specs.Strategies.Paired.{IsHolding, PairedStage}

@@ -23,12 +23,12 @@ use Rattle.relations.specs.Mirror.{is_of}
 use Rattle.main_selects.specs.MainSelect.{main_select}
 use Rattle.load_filling.specs.Rows.{row_key}
 use Rattle.load_rows.specs.Reading.{identity_key}
-use Rattle.load_links.specs.Links.{link_at}
+use Rattle.load_rows.specs.Links.{link_at}
 use Rattle.load_calls.specs.Reading.{World}
 use Rattle.load_batches.specs.Batches.{is_unloaded}
 use Rattle.load_ends.specs.Ends.{with_first}
 use Rattle.load_queries.specs.Queries.{load_select}
-use Rattle.load_joined.specs.Joined.{load_joined}
+use Rattle.load_queries.specs.Joined.{load_joined}
 use Rattle.loading_laws.specs.Answers.Answers.{AreRowsOf}
 use Rattle.loading_laws.specs.Strategies.Filled.{Goes, IsFilled}
 use Rattle.loading_laws.specs.Strategies.Ends.{IsLed, has_row}

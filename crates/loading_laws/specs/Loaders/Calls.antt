@@ -8,11 +8,11 @@ use Rattle.sql_semantics.specs.Eval.{Row}
 use Rattle.class_types.specs.declared.mapped.Relation.{Relation}
 use Rattle.class_mapping.specs.Mapped.{Mapped}
 use Rattle.object_arena.specs.Graph.{is_among}
-use Rattle.load_links.specs.Links.{link_at}
+use Rattle.load_rows.specs.Links.{link_at}
 use Rattle.load_calls.specs.Reading.{World}
 use Rattle.load_batches.specs.Batches.{is_unloaded}
 use Rattle.load_targets.specs.Targets.{load_lazy}
-use Rattle.load_selectin.specs.Selectin.{load_selectin}
+use Rattle.load_queries.specs.Selectin.{load_selectin}
 use Rattle.loading_laws.specs.Answers.Answers.{AreRowsOf}
 use Rattle.loading_laws.specs.Strategies.Filled.{Goes}
 use Rattle.loading_laws.specs.Loaders.Linked.{AgreesWithMap, HoldAlike, HoldsRows, IsReady, IsStage, related_to}

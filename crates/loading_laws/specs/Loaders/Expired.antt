@@ -8,7 +8,7 @@ use Rattle.sql_semantics.specs.Eval.{Row}
 use Rattle.class_types.specs.declared.mapped.Relation.{Relation}
 use Rattle.class_mapping.specs.Mapped.{Mapped}
 use Rattle.object_arena.specs.Graph.{object_at}
-use Rattle.load_links.specs.Links.{link_at}
+use Rattle.load_rows.specs.Links.{link_at}
 use Rattle.load_calls.specs.Reading.{World}
 use Rattle.load_calls.specs.Refreshing.{refresh}
 use Rattle.load_targets.specs.ForeignKeys.{is_key_expired}

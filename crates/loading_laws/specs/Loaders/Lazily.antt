@@ -7,10 +7,10 @@ use Rattle.sql_semantics.specs.Created.{bare}
 use Rattle.sql_semantics.specs.Eval.{Row}
 use Rattle.class_types.specs.declared.mapped.Relation.{Relation}
 use Rattle.class_mapping.specs.Mapped.{Mapped}
-use Rattle.programs.specs.Programs.{Run, each}
+use Rattle.keeper_core.specs.Programs.{Run, each}
 use Rattle.object_arena.specs.Fit.{relation_of}
 use Rattle.object_arena.specs.Graph.{Graph, IsObject, object_at}
-use Rattle.load_links.specs.Links.{link_at}
+use Rattle.load_rows.specs.Links.{link_at}
 use Rattle.load_calls.specs.Reading.{World}
 use Rattle.load_targets.specs.Targets.{load_lazy}
 use Rattle.load_batches.specs.Batches.{is_unloaded}

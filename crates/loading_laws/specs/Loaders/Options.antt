@@ -13,11 +13,11 @@ use Rattle.object_arena.specs.declared.object.State.TheVariants.{Persistent}
 use Rattle.object_arena.specs.Fit.{relation_of}
 use Rattle.object_arena.specs.Graph.{Graph, IsObject, is_among, object_at}
 use Rattle.object_arena.specs.Identity.{IsGraph}
-use Rattle.load_links.specs.Links.{link_at}
+use Rattle.load_rows.specs.Links.{link_at}
 use Rattle.load_calls.specs.Reading.{World}
 use Rattle.load_targets.specs.ForeignKeys.{is_key_expired, value_of}
 use Rattle.load_batches.specs.Batches.{IsOwner, is_unloaded}
-use Rattle.load_selectin.specs.Selectin.{IsOption, load_options, load_selectin, owners_among}
+use Rattle.load_queries.specs.Selectin.{IsOption, load_options, load_selectin, owners_among}
 use Rattle.loading_laws.specs.Answers.Answers.{AreRowsOf}
 use Rattle.loading_laws.specs.Strategies.Filled.{Goes}
 use Rattle.loading_laws.specs.Strategies.Standing.{Stays}

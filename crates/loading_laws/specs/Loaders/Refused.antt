@@ -7,7 +7,7 @@ use Rattle.class_types.specs.declared.mapped.Relation.{Relation}
 use Rattle.class_mapping.specs.Mapped.{Mapped}
 use Rattle.load_calls.specs.Reading.{World}
 use Rattle.load_batches.specs.Batches.{IsOwner}
-use Rattle.load_selectin.specs.Selectin.{load_selectin}
+use Rattle.load_queries.specs.Selectin.{load_selectin}
 use Rattle.loading_laws.specs.Loaders.Linked.{IsStage}
 use Rattle.loading_laws.specs.Loaders.Options.{Leaves}
 

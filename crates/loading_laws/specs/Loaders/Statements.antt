@@ -7,16 +7,16 @@ use Rattle.base_core.specs.declared.value.Value.{Value}
 use Rattle.expr_types.specs.declared.select.Select.{Select}
 use Rattle.class_types.specs.declared.mapped.Relation.{Relation}
 use Rattle.class_mapping.specs.Mapped.{Mapped}
-use Rattle.programs.specs.declared.sent.Sent.TheVariants as sent
-use Rattle.programs.specs.Programs.{Event, Sends}
-use Rattle.programs.specs.Store.{Store, committed_of}
+use Rattle.keeper_core.specs.declared.sent.Sent.TheVariants as sent
+use Rattle.keeper_core.specs.Programs.{Event, Sends}
+use Rattle.keeper_core.specs.Store.{Store, committed_of}
 use Rattle.object_arena.specs.Graph.{Graph}
 use Rattle.collection_selects.specs.Collections.{batch_select}
 use Rattle.load_selects.specs.Selects.{targets_select}
 use Rattle.load_calls.specs.Reading.{World}
 use Rattle.load_batches.specs.Batches.{IsOwner, keys_of, unloaded_owners}
 use Rattle.load_ends.specs.Ends.{unloaded, wanted_keys}
-use Rattle.load_selectin.specs.Selectin.{load_selectin}
+use Rattle.load_queries.specs.Selectin.{load_selectin}
 use Rattle.loading_laws.specs.Strategies.Filled.{Goes}
 
 abbrev pub Keys : Type 0

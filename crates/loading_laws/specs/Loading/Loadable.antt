@@ -31,7 +31,7 @@ use Rattle.main_selects.specs.MainSelect.{main_select}
 use Rattle.load_rows.specs.Reading.{identity_key}
 use Rattle.load_calls.specs.Reading.{World}
 use Rattle.load_targets.specs.ForeignKeys.{value_of}
-use Rattle.legality_laws.specs.Legality.{AreSound}
+use Rattle.table_laws.specs.Legality.{AreSound}
 use Rattle.loading_laws.specs.Wide.Answers.{own_columns}
 use Rattle.loading_laws.specs.TiedRows.{BeginsWith}
 

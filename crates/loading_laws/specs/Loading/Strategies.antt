@@ -14,12 +14,12 @@ use Rattle.object_arena.specs.Fit.{relation_of}
 use Rattle.object_arena.specs.Graph.{Graph, is_among}
 use Rattle.relations.specs.Mirror.{is_of}
 use Rattle.load_rows.specs.Reading.{identity_key}
-use Rattle.load_links.specs.Links.{link_at}
+use Rattle.load_rows.specs.Links.{link_at}
 use Rattle.load_calls.specs.Reading.{World}
 use Rattle.load_batches.specs.Batches.{is_unloaded}
 use Rattle.load_queries.specs.Queries.{load_select}
-use Rattle.load_selectin.specs.Selectin.{IsOption, load_objects}
-use Rattle.load_joined.specs.Joined.{load_joined}
+use Rattle.load_queries.specs.Selectin.{IsOption, load_objects}
+use Rattle.load_queries.specs.Joined.{load_joined}
 use Rattle.loading_laws.specs.Strategies.Filled.{Goes}
 use Rattle.loading_laws.specs.Joined.Joined.{AnswerAlike}
 use Rattle.loading_laws.specs.Loaders.Lazily.{is_link, load_links}

@@ -14,11 +14,11 @@ use Rattle.object_arena.specs.Graph.{Graph, is_among}
 use Rattle.object_arena.specs.Identity.{find_identity}
 use Rattle.relations.specs.Mirror.{is_of}
 use Rattle.load_rows.specs.Reading.{identity_key}
-use Rattle.load_links.specs.Links.{link_at}
+use Rattle.load_rows.specs.Links.{link_at}
 use Rattle.load_calls.specs.Reading.{World}
 use Rattle.load_batches.specs.Batches.{is_unloaded}
 use Rattle.load_queries.specs.Queries.{load_select}
-use Rattle.load_joined.specs.Joined.{load_joined}
+use Rattle.load_queries.specs.Joined.{load_joined}
 use Rattle.load_targets.specs.Targets.{load_lazy}
 use Rattle.loading_laws.specs.Strategies.Filled.{Goes}
 use Rattle.loading_laws.specs.Joined.Joined.{AnswerAlike, link_before}

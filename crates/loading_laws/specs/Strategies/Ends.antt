@@ -19,7 +19,7 @@ use Rattle.object_arena.specs.Identity.{find_identity}
 use Rattle.relations.specs.Mirror.{is_of}
 use Rattle.load_filling.specs.Rows.{row_key}
 use Rattle.load_rows.specs.Reading.{identity_key}
-use Rattle.load_links.specs.Links.{link_at}
+use Rattle.load_rows.specs.Links.{link_at}
 use Rattle.load_calls.specs.Reading.{World}
 use Rattle.load_targets.specs.ForeignKeys.{is_key_expired}
 use Rattle.load_targets.specs.Targets.{load_target}

@@ -14,15 +14,15 @@ use Rattle.class_types.specs.declared.mapped.Relation.{Relation}
 use Rattle.class_mapping.specs.Mapped.{Mapped, root_of}
 use Rattle.class_mapping.specs.Related.{IsRelated}
 use Rattle.mapping_laws.specs.Hierarchies.{HasHierarchies}
-use Rattle.programs.specs.Programs.{Run}
+use Rattle.keeper_core.specs.Programs.{Run}
 use Rattle.object_arena.specs.declared.object.Link.{Link}
 use Rattle.object_arena.specs.Graph.{Graph, IsLink, IsObject, is_among}
 use Rattle.collection_selects.specs.Collections.{owner_columns}
 use Rattle.load_filling.specs.Rows.{row_key, value_in}
 use Rattle.load_rows.specs.Reading.{identity_key}
-use Rattle.load_links.specs.Links.{collection_of, link_at}
+use Rattle.load_rows.specs.Links.{collection_of, link_at}
 use Rattle.load_calls.specs.Reading.{World}
-use Rattle.load_collections.specs.Collections.{load_collection}
+use Rattle.load_calls.specs.Collections.{load_collection}
 use Rattle.load_targets.specs.ForeignKeys.{foreign_attrs}
 use Rattle.load_batches.specs.Batches.{is_unloaded, load_members, with_key as with_owner_key}
 use Rattle.load_batches.specs.declared.owners.Owner.{Owner}

@@ -11,9 +11,9 @@ use Rattle.class_sides.specs.Keys.{TableKey}
 use Rattle.class_mapping.specs.Mapped.{Mapped, root_spec}
 use Rattle.object_arena.specs.Graph.{Graph, IsLink, IsObject, is_among}
 use Rattle.load_rows.specs.Reading.{identity_key}
-use Rattle.load_links.specs.Links.{link_at}
+use Rattle.load_rows.specs.Links.{link_at}
 use Rattle.load_calls.specs.Reading.{World}
-use Rattle.load_collections.specs.Collections.{load_collection}
+use Rattle.load_calls.specs.Collections.{load_collection}
 use Rattle.load_batches.specs.Batches.{is_unloaded, load_members}
 use Rattle.loading_laws.specs.Members.{IsPaired, paired_rows}
 use Rattle.loading_laws.specs.Strategies.Filled.{AreAlike, Goes, IsFilled}

@@ -4,8 +4,8 @@ use Rattle.base_core.specs.declared.refusal.Refusal.{Refusal}
 use Rattle.class_types.specs.Rules.{Rules}
 use Rattle.command_resolve.specs.declared.answer.Answer.{Answer}
 use Rattle.command_resolve.specs.declared.resolved.Resolved.{Resolved}
-use Rattle.programs.specs.Beside.{Beside, by_own, on_own}
-use Rattle.programs.specs.Programs.{Event, Run, ◌>>=◌, ask, continue_from, give, handle_refusal, quiet, recover_from, with_events_before}
+use Rattle.keeper_core.specs.Beside.{Beside, by_own, on_own}
+use Rattle.keeper_core.specs.Programs.{Event, Run, ◌>>=◌, ask, continue_from, give, handle_refusal, quiet, recover_from, with_events_before}
 use Rattle.script_types.specs.declared.command.Command.{Command}
 use Rattle.session_calls.specs.Parts.{World}
 use Rattle.session_perform.specs.Performing.{program_of_resolved, telling}

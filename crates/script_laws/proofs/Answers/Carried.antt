@@ -6,7 +6,7 @@ use Rattle.command_resolve.specs.declared.answer.Answer.{Answer}
 use Rattle.command_resolve.specs.declared.answer.Answer.TheVariants as answer
 use Rattle.command_resolve.specs.declared.resolved.Resolved.{Resolved}
 use Rattle.command_resolve.specs.declared.resolved.Resolved.TheVariants as resolved
-use Rattle.programs.specs.Programs.{Run, quiet}
+use Rattle.keeper_core.specs.Programs.{Run, quiet}
 use Rattle.savepoints.specs.Scopes.{scope_limit}
 use Rattle.script_types.specs.declared.command.Command.{Command}
 use Rattle.script_types.specs.declared.command.Command.TheVariants as words

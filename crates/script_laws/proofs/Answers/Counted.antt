@@ -4,11 +4,11 @@ use Rattle.std.specs.Prelude.{if◌then◌else◌, is_none, is_ok, is_some}
 use Rattle.base_core.specs.declared.refusal.Refusal.{Refusal}
 use Rattle.class_types.specs.Rules.{Rules}
 use Rattle.command_resolve.specs.declared.answer.Answer.{Answer}
-use Rattle.legality_laws.proofs.EachJoin.{keeps_give, keeps_then}
-use Rattle.legality_laws.specs.Legality.{Keeps}
-use Rattle.programs.specs.Beside.{Beside, by_own, on_own}
-use Rattle.programs.specs.Programs.{Event, Run, ◌>>=◌, ask, become, becomes, change, continue_from, each, give, handle_refusal, quiet, recover_from}
-use Rattle.script_lines.specs.Scripts.{lines_of}
+use Rattle.table_laws.proofs.EachJoin.{keeps_give, keeps_then}
+use Rattle.table_laws.specs.Legality.{Keeps}
+use Rattle.keeper_core.specs.Beside.{Beside, by_own, on_own}
+use Rattle.keeper_core.specs.Programs.{Event, Run, ◌>>=◌, ask, become, becomes, change, continue_from, each, give, handle_refusal, quiet, recover_from}
+use Rattle.byte_streams.specs.Scripts.{lines_of}
 use Rattle.script_read.specs.Line.{line as read_as}
 use Rattle.script_types.specs.declared.command.Command.{Command}
 use Rattle.session_scopes.specs.SessionState.{SessionState}

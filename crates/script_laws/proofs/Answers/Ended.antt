@@ -3,10 +3,10 @@ use Rattle.std.proofs.Common.{◌≡◌, ◌⊎◌, inl, inr, ℕ, Bool, true, f
 use Rattle.base_core.specs.declared.refusal.Refusal.{Refusal}
 use Rattle.class_types.specs.Rules.{Rules}
 use Rattle.program_words.specs.declared.options.Options.{Options}
-use Rattle.programs.specs.Moment.{Told}
-use Rattle.programs.specs.Programs.{Event, Log, Run, ◌>>=◌, continue_from, each, give}
-use Rattle.programs.specs.Store.{Store}
-use Rattle.script_lines.specs.Scripts.{lines_of}
+use Rattle.keeper_core.specs.Moment.{Told}
+use Rattle.keeper_core.specs.Programs.{Event, Log, Run, ◌>>=◌, continue_from, each, give}
+use Rattle.keeper_core.specs.Store.{Store}
+use Rattle.byte_streams.specs.Scripts.{lines_of}
 use Rattle.shell_replies.specs.declared.notes.PrintOptions.{PrintOptions}
 use Rattle.shell_steps.specs.Step.{end_reply}
 use Rattle.sqla_shell.specs.Causes.{Faults, ShowsFaults, done_status}

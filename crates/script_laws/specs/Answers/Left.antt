@@ -2,8 +2,8 @@
 use Rattle.std.specs.Prelude.{◌≡◌, ℕ, List, Ok}
 use Rattle.schema_core.specs.Tables.{Tables}
 use Rattle.class_types.specs.Rules.{Rules}
-use Rattle.programs.specs.Beside.{Beside}
-use Rattle.programs.specs.Store.{Store}
+use Rattle.keeper_core.specs.Beside.{Beside}
+use Rattle.keeper_core.specs.Store.{Store}
 use Rattle.script_types.specs.declared.command.Command.{Command}
 use Rattle.shell_stage.specs.declared.stage.Stage.{Stage}
 use Rattle.shell_stage.specs.declared.stage.Stage.TheVariants.{Declaring, Configured}

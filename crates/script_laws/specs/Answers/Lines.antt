@@ -2,8 +2,8 @@
 use Rattle.std.specs.Prelude.{◌≡◌, ◌<◌, ◌≤◌, ℕ, false, List, codes, [], length, None, Ok}
 use Rattle.schema_core.specs.Tables.{Tables}
 use Rattle.class_types.specs.Rules.{Rules}
-use Rattle.programs.specs.Beside.{Beside}
-use Rattle.programs.specs.Store.{Store}
+use Rattle.keeper_core.specs.Beside.{Beside}
+use Rattle.keeper_core.specs.Store.{Store}
 use Rattle.savepoints.specs.Scopes.{scope_limit}
 use Rattle.script_read.specs.Line.{line as read_as}
 use Rattle.script_types.specs.declared.command.Command.{Command}

@@ -2,10 +2,10 @@
 use Rattle.std.specs.Prelude.{◌≡◌, ◌⊎◌, ℕ, Bool, true, false, not, ◌&&◌, List, [], ◌∷◌, Some, is_none, is_ok}
 use Rattle.base_core.specs.Counts.{Rose}
 use Rattle.class_types.specs.Rules.{Rules}
-use Rattle.programs.specs.Beside.{Beside}
-use Rattle.programs.specs.Moment.{Told}
-use Rattle.programs.specs.Store.{Store}
-use Rattle.script_lines.specs.Scripts.{lines_of}
+use Rattle.keeper_core.specs.Beside.{Beside}
+use Rattle.keeper_core.specs.Moment.{Told}
+use Rattle.keeper_core.specs.Store.{Store}
+use Rattle.byte_streams.specs.Scripts.{lines_of}
 use Rattle.shell_replies.specs.declared.notes.PrintOptions.{PrintOptions}
 use Rattle.shell_steps.specs.ShellState.{ShellState}
 use Rattle.shell_steps.specs.Step.{line_step}

@@ -17,8 +17,8 @@ use Rattle.object_arena.specs.Graph.{Graph, IsObject, cell_in, cell_put, either_
 use Rattle.object_arena.specs.Identity.{IsGraph, is_identified}
 use Rattle.std.proofs.lemmas.List.{length-set}
 use Rattle.object_arena.proofs.GraphLemmas.{graph_left, graph_set, owns_back}
-use Rattle.programs.specs.Store.{Store}
-use Rattle.programs.specs.Beside.{changes}
+use Rattle.keeper_core.specs.Store.{Store}
+use Rattle.keeper_core.specs.Beside.{changes}
 use Rattle.schema_core.specs.Tables.{Tables}
 use Rattle.session_parts.specs.Depths.{has_scope}
 use Rattle.session_parts.specs.Ends.{object_unmarked}

@@ -17,8 +17,8 @@ use Rattle.object_arena.specs.declared.object.State.TheVariants.{Pending, Transi
 use Rattle.object_arena.specs.Graph.{Graph, cell_put, fresh_object, make, no_class_id, no_object, object_at, object_limit, place_of, with_fresh}
 use Rattle.object_arena.specs.Identity.{IsGraph, holds}
 use Rattle.object_arena.proofs.GraphLemmas.{graph_pushed}
-use Rattle.programs.specs.Beside.{on_own}
-use Rattle.programs.specs.Store.{Store}
+use Rattle.keeper_core.specs.Beside.{on_own}
+use Rattle.keeper_core.specs.Store.{Store}
 use Rattle.savepoints.specs.declared.scope.Scope.{Scope}
 use Rattle.savepoints.specs.declared.scope.Standing.{Standing}
 use Rattle.savepoints.specs.Scopes.{Framed, made_since, standing_at, standing_of}

@@ -8,9 +8,9 @@ use Rattle.object_arena.specs.declared.object.State.{State}
 use Rattle.object_arena.specs.declared.object.State.TheVariants.{Transient, Pending, Persistent, Deleted, Detached}
 use Rattle.object_arena.specs.Graph.{Graph, expired_cell, is_persistent, no_object}
 use Rattle.object_arena.specs.Identity.{is_identified}
-use Rattle.programs.specs.Store.{Store}
-use Rattle.programs.specs.Programs.{◌>>=◌, give}
-use Rattle.programs.specs.Beside.{by_own, changes, on_store}
+use Rattle.keeper_core.specs.Store.{Store}
+use Rattle.keeper_core.specs.Programs.{◌>>=◌, give}
+use Rattle.keeper_core.specs.Beside.{by_own, changes, on_store}
 use Rattle.schema_core.specs.Tables.{Tables}
 use Rattle.savepoints.specs.declared.scope.Scope.{Scope}
 use Rattle.savepoints.specs.Scopes.{Framed, begun_at, is_touched, scope_released}

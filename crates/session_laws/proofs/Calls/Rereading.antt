@@ -20,15 +20,15 @@ use Rattle.mapping_laws.proofs.Attributes.{of_column}
 use Rattle.expr_types.specs.declared.select.Bulk.{Bulk}
 use Rattle.expr_types.specs.declared.select.Select.{Select}
 use Rattle.keeper_core.specs.Calls as call
-use Rattle.legality_laws.proofs.Accepted.{bulk_legal}
+use Rattle.table_laws.proofs.Accepted.{bulk_legal}
 use Rattle.object_arena.specs.declared.object.Cell.{Cell}
 use Rattle.object_arena.specs.declared.object.Object.{Object}
 use Rattle.object_arena.specs.Fit.{ObjectFits, cell_fits}
 use Rattle.object_arena.specs.Graph.{is_persistent, no_object}
 use Rattle.object_arena.specs.Identity.{is_identified}
-use Rattle.programs.specs.Store.{Store}
-use Rattle.programs.specs.Programs.{Event, ◌>>=◌, continue_from, give}
-use Rattle.programs.specs.Beside.{by_own, changes, on_store}
+use Rattle.keeper_core.specs.Store.{Store}
+use Rattle.keeper_core.specs.Programs.{Event, ◌>>=◌, continue_from, give}
+use Rattle.keeper_core.specs.Beside.{by_own, changes, on_store}
 use Rattle.schema_core.specs.Tables.{Legal, Rows, Tables, row_under, rows_in}
 use Rattle.sql_semantics.specs.Applied as applied
 use Rattle.sql_semantics.specs.Plain.{IsPlainBulk}

@@ -6,8 +6,8 @@ use Rattle.base_core.specs.declared.refusal.Refusal.{Refusal}
 use Rattle.expr_types.specs.declared.select.Bulk.{Bulk}
 use Rattle.keeper_core.specs.Calls as call
 use Rattle.object_arena.specs.Graph.{Graph}
-use Rattle.programs.specs.Programs.{◌>>=◌, give}
-use Rattle.programs.specs.Beside.{by_own, changes, on_store}
+use Rattle.keeper_core.specs.Programs.{◌>>=◌, give}
+use Rattle.keeper_core.specs.Beside.{by_own, changes, on_store}
 use Rattle.savepoints.specs.declared.scope.Scope.{Scope}
 use Rattle.session_scopes.specs.Handles.{place_of_handle}
 use Rattle.session_scopes.specs.SessionState.{SessionState, depth_in}

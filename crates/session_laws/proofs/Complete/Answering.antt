@@ -8,8 +8,8 @@ use Rattle.base_core.specs.declared.refusal.Refusal.TheVariants.{LimitReached, P
 use Rattle.schema_core.specs.Tables.{Tables}
 use Rattle.keeper_core.specs.Calls as call
 use Rattle.object_arena.specs.Graph.{Graph}
-use Rattle.programs.specs.Programs.{Event, Run, ◌>>=◌, continue_from, give, refuse}
-use Rattle.programs.specs.Beside.{by_own, changes, on_store}
+use Rattle.keeper_core.specs.Programs.{Event, Run, ◌>>=◌, continue_from, give, refuse}
+use Rattle.keeper_core.specs.Beside.{by_own, changes, on_store}
 use Rattle.savepoints.specs.declared.scope.Scope.{Scope}
 use Rattle.savepoints.specs.Scopes.{scope_limit}
 use Rattle.session_scopes.specs.SessionState.{SessionState, in_transaction}
@@ -17,13 +17,13 @@ use Rattle.session_calls.specs.Parts.{World, checked, fault_if, unless}
 use Rattle.session_calls.specs.Steps.{begin_unless, enter}
 use Rattle.session_calls.proofs.Acting.{no_scope_open}
 use Rattle.session_acts.specs.Savepoints.{begin_savepoint, commit_transaction, commit_whole, enter_nested, limit_fault, release_many, release_one}
-use Rattle.session_flush.specs.Flush.{flush}
+use Rattle.session_acts.specs.Flush.{flush}
 use Rattle.session_acts.specs.Steps as acts
 use Rattle.session_acts.specs.Steps.{flush_now, flush_whole, orphan_fault}
 use Rattle.session_laws.proofs.Sound.Beginning.{entered_graph}
 use Rattle.session_laws.proofs.Sound.Programs.{checked_same}
 use Rattle.session_laws.specs.Stating.{AnswersWhereStated}
-use Rattle.flush_laws.specs.Sendable.{ChangesFit, FitPlansAreSendable}
+use Rattle.session_laws.specs.Sendable.{ChangesFit, FitPlansAreSendable}
 use Rattle.session_laws.proofs.Health.Acts.{once_begun}
 use Rattle.session_laws.specs.Complete.{BeginAnswersWhere, CommitAnswersWhere, FlushAnswersWhere, IsWritable}
 use Rattle.session_laws.proofs.Complete.Written.{IsReady, flush_written}

@@ -3,17 +3,17 @@ use Rattle.std.proofs.Common.{◌≡◌, Ok, sym, ap, ◌∙◌, subst}
 use Rattle.schema_core.specs.Tables.{Tables}
 use Rattle.class_mapping.specs.Mapped.{Mapped}
 use Rattle.object_arena.specs.Graph.{Graph}
-use Rattle.flush_laws.proofs.Held.After.{order_made}
-use Rattle.flush_laws.proofs.Held.Ascending.{ascending_sorted}
-use Rattle.session_flush.specs.Flush.{flush, prepared_of}
-use Rattle.session_flush.specs.Outcome.{changes_of}
+use Rattle.session_laws.proofs.Held.After.{order_made}
+use Rattle.session_laws.proofs.Held.Ascending.{ascending_sorted}
+use Rattle.session_acts.specs.Flush.{flush, prepared_of}
+use Rattle.session_acts.specs.Outcome.{changes_of}
 use Rattle.session_laws.specs.Flushes.{SendsItsPlan}
 use Rattle.session_laws.specs.Stating.{LeavesStatedRows}
-use Rattle.flush_laws.specs.OwnRows.{ObjectsHaveOwnRows}
+use Rattle.session_laws.specs.OwnRows.{ObjectsHaveOwnRows}
 use Rattle.session_laws.proofs.SoundFlushes.Told.{stand}
 use Rattle.session_calls.specs.Parts.{World, checked}
 use Rattle.session_calls.specs.Steps.{enter}
-use Rattle.programs.specs.Programs.{Run, ◌>>=◌}
+use Rattle.keeper_core.specs.Programs.{Run, ◌>>=◌}
 use Rattle.session_acts.specs.Savepoints.{begin_savepoint, commit_whole, enter_nested, limit_fault}
 use Rattle.session_acts.specs.Steps as acts
 use Rattle.session_acts.specs.Steps.{flush_now, flush_whole, orphan_fault}

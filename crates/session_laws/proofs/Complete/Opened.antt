@@ -14,20 +14,20 @@ use Rattle.object_arena.specs.Graph.{Graph, IsObject, is_persistent, object_at}
 use Rattle.object_arena.specs.Identity.{IsGraph}
 use Rattle.object_rows.specs.declared.prepared.Prepared.{Prepared}
 use Rattle.object_rows.specs.Rows as rows
-use Rattle.flush_laws.specs.Graphs.{IsAsRead, IsTold}
-use Rattle.flush_laws.proofs.Held.Ascending.{ascending_sorted}
+use Rattle.session_laws.specs.Graphs.{IsAsRead, IsTold}
+use Rattle.session_laws.proofs.Held.Ascending.{ascending_sorted}
 use Rattle.session_laws.specs.SoundFlushes.{IsToldSession}
 use Rattle.session_laws.proofs.SoundFlushes.Told.{stand}
 use Rattle.session_laws.proofs.SoundFlushes.Adding.{none_deleted}
 use Rattle.session_calls.specs.Parts.{World}
 use Rattle.session_calls.specs.Steps.{enter}
-use Rattle.session_flush.specs.Flush.{prepared_of}
+use Rattle.session_acts.specs.Flush.{prepared_of}
 use Rattle.session_laws.specs.Sound.{IsSound}
 use Rattle.session_laws.proofs.Sound.Beginning.{entered_mapping}
 use Rattle.session_laws.proofs.Health.Acts.{IsInside, enter_led, once_begun, told}
-use Rattle.flush_laws.proofs.OwnRows.PairsOnce.{unmarked_once}
-use Rattle.flush_laws.proofs.OwnRows.Standing.{hierarchies, own_rows, pairs_unmapped}
-use Rattle.flush_laws.proofs.Sendable.Roots.{alone}
+use Rattle.session_laws.proofs.OwnRows.PairsOnce.{unmarked_once}
+use Rattle.session_laws.proofs.OwnRows.Standing.{hierarchies, own_rows, pairs_unmapped}
+use Rattle.session_laws.proofs.Sendable.Roots.{alone}
 use Rattle.session_laws.specs.Complete.{DeletedHaveNoOtherLinks, HoldsLinks, LinksMayBeWritten, MayBeWritten}
 use Rattle.session_laws.proofs.Complete.Answering.{IsOpened, enter_answers}
 use Rattle.session_laws.proofs.Complete.Reading.{all_read}

@@ -26,9 +26,9 @@ use Rattle.class_layouts.specs.declared.classes.Classes.{Classes}
 use Rattle.class_layouts.specs.Columns.{attribute_at, is_attribute, is_shown, table_attributes}
 use Rattle.class_mapping.proofs.Having.{Has, all_from, any_has, from_flat, from_map, has_filter, has_flat, has_map, has_numbered}
 use Rattle.object_arena.proofs.FitLemmas.{fit_cells}
-use Rattle.flush_laws.proofs.Projects.Loose.{has_place}
-use Rattle.flush_laws.proofs.Graphs.MappingFacts.{once_law}
-use Rattle.flush_laws.proofs.Held.Attributes.{column_place}
+use Rattle.session_laws.proofs.Projects.Loose.{has_place}
+use Rattle.session_laws.proofs.Graphs.MappingFacts.{once_law}
+use Rattle.session_laws.proofs.Held.Attributes.{column_place}
 use Rattle.schema_core.specs.declared.table.TableSpec.{TableSpec}
 use Rattle.class_mapping.proofs.RelatedKeys.{same_table}
 use Rattle.object_arena.specs.declared.object.Cell.{Cell}
@@ -40,12 +40,12 @@ use Rattle.flush_plan.specs.Stating.{row_at}
 use Rattle.object_rows.specs.declared.prepared.Prepared.{Prepared}
 use Rattle.object_rows.specs.Cells.{key_value}
 use Rattle.object_rows.specs.Rows.{cell_for, columns_at, gone_cell, gone_row, gone_rows, is_at, is_joined, key_part, rows_gone, value_before}
-use Rattle.flush_laws.proofs.Plans.Between.{legal_cells, legal_key}
-use Rattle.flush_laws.proofs.Plans.Facts.{some_of}
-use Rattle.flush_laws.specs.Graphs.{AreKeyed, IsAsRead, key_held}
-use Rattle.flush_laws.specs.Held.{column_in, held_in}
-use Rattle.flush_laws.specs.OwnRows.{StandInTables}
-use Rattle.flush_laws.proofs.OwnRows.Standing.{IsToGo, to_go}
+use Rattle.session_laws.proofs.Plans.Between.{legal_cells, legal_key}
+use Rattle.session_laws.proofs.Plans.Facts.{some_of}
+use Rattle.session_laws.specs.Graphs.{AreKeyed, IsAsRead, key_held}
+use Rattle.session_laws.specs.Held.{column_in, held_in}
+use Rattle.session_laws.specs.OwnRows.{StandInTables}
+use Rattle.session_laws.proofs.OwnRows.Standing.{IsToGo, to_go}
 use Rattle.session_laws.specs.Complete.{DeletedHaveNoOtherLinks}
 
 -- ---- cells of rows

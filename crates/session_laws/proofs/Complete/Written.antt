@@ -11,16 +11,16 @@ use Rattle.object_arena.specs.Identity.{IsGraph}
 use Rattle.flush_order.specs.Orders.{delete_order, gone_rows, insert_order}
 use Rattle.flush_plan.specs.Flushing.{Sofar}
 use Rattle.flush_plan.specs.Planning.{plan, statements, unless_gone_cycle, unless_new_cycle}
-use Rattle.flush_laws.specs.Plans.Laws.{before}
-use Rattle.flush_laws.specs.Plans.Premises.{IsSorted}
+use Rattle.session_laws.specs.Plans.Laws.{before}
+use Rattle.session_laws.specs.Plans.Premises.{IsSorted}
 use Rattle.plan_statements.specs.Known.{is_sendable}
-use Rattle.flush_laws.specs.Graphs.{IsTold, IsWellMapped}
+use Rattle.session_laws.specs.Graphs.{IsTold, IsWellMapped}
 use Rattle.session_calls.specs.Parts.{World}
-use Rattle.session_flush.specs.Flush.{flush, prepared_of}
-use Rattle.session_flush.specs.Outcome.{changes_of}
+use Rattle.session_acts.specs.Flush.{flush, prepared_of}
+use Rattle.session_acts.specs.Outcome.{changes_of}
 use Rattle.session_laws.specs.Flushes.{AreSendable}
 use Rattle.session_laws.specs.Stating.{AnswersWhereStated}
-use Rattle.flush_laws.specs.Sendable.{ChangesFit, FitPlansAreSendable, HoldWhenSent}
+use Rattle.session_laws.specs.Sendable.{ChangesFit, FitPlansAreSendable, HoldWhenSent}
 use Rattle.session_laws.specs.Complete.{IsWritable}
 
 -- What the objects rest on: they fit the mapping, one stands for each key, and the tables tell what is to be deleted of them.

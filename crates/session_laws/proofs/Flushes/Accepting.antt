@@ -15,16 +15,16 @@ use Rattle.schema_core.specs.Tables.{Tables}
 use Rattle.flush_plan.specs.Flushing.{Flushed, Keys, Sofar, after_outcome, keys_then, send, send_all, statement_sent, table_of, was_missing}
 use Rattle.flush_plan.specs.Planning.{plan}
 use Rattle.object_rows.specs.declared.prepared.Prepared.{Prepared}
-use Rattle.programs.specs.Programs.{Run, ◌>>=◌, ask, continue_from, each, give, undo_on_refusal, with_undo}
-use Rattle.programs.specs.Beside.{by_own, changes, on_own, on_store}
+use Rattle.keeper_core.specs.Programs.{Run, ◌>>=◌, ask, continue_from, each, give, undo_on_refusal, with_undo}
+use Rattle.keeper_core.specs.Beside.{by_own, changes, on_own, on_store}
 use Rattle.keeper_core.specs.Calls as call
 use Rattle.keeper_core.specs.Calls.{run_of_write}
 use Rattle.session_scopes.specs.SessionState.{with_notes, with_warnings}
 use Rattle.session_calls.specs.Parts.{World}
 use Rattle.plan_statements.specs.Known.{is_sendable}
-use Rattle.plan_run.specs.Run.{keys_by_place, keys_unless, send_one, send_plan, write_if}
-use Rattle.session_flush.specs.Flush.{flush, give_up, prepare, prepared_of, session_flushed, write_objects, write_prepared, write_rows, write_warned}
-use Rattle.session_flush.specs.Outcome.{changes_of}
+use Rattle.session_statements.specs.Run.{keys_by_place, keys_unless, send_one, send_plan, write_if}
+use Rattle.session_acts.specs.Flush.{flush, give_up, prepare, prepared_of, session_flushed, write_objects, write_prepared, write_rows, write_warned}
+use Rattle.session_acts.specs.Outcome.{changes_of}
 use Rattle.session_laws.specs.Flushes.{AreSendable}
 use Rattle.session_laws.proofs.Flushes.Sending.{sofar_of}
 

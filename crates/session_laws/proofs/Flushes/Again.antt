@@ -22,13 +22,13 @@ use Rattle.row_project.specs.Changes.{project}
 use Rattle.graph_flushed.specs.Flushed.{Written, deleted_object, graph_written, key_of, new_object, object_in, staying_object, state_under, written_with}
 use Rattle.session_laws.specs.Flushed.{nothing_prepared}
 use Rattle.session_laws.proofs.Flushed.{at_each, no_statement, nothing_passes}
-use Rattle.programs.specs.Programs.{Run, ◌>>=◌, ask, continue_from, each, give, undo_on_refusal, with_events_before, with_undo}
-use Rattle.programs.specs.Beside.{by_own, changes, on_own}
+use Rattle.keeper_core.specs.Programs.{Run, ◌>>=◌, ask, continue_from, each, give, undo_on_refusal, with_events_before, with_undo}
+use Rattle.keeper_core.specs.Beside.{by_own, changes, on_own}
 use Rattle.session_scopes.specs.SessionState.{with_warnings}
 use Rattle.session_calls.specs.Parts.{World}
-use Rattle.plan_run.specs.Run.{send_plan}
-use Rattle.session_flush.specs.Flush.{flush, give_up, is_to_delete, prepare, prepared_of, session_flushed, write_objects, write_prepared, write_rows, write_warned}
-use Rattle.session_flush.specs.Outcome.{changes_of}
+use Rattle.session_statements.specs.Run.{send_plan}
+use Rattle.session_acts.specs.Flush.{flush, give_up, is_to_delete, prepare, prepared_of, session_flushed, write_objects, write_prepared, write_rows, write_warned}
+use Rattle.session_acts.specs.Outcome.{changes_of}
 use Rattle.session_laws.specs.Flushes.{MarksArePersistent}
 use Rattle.session_laws.proofs.Flushes.Flushing.{IsFlushSent, flush_sent}
 

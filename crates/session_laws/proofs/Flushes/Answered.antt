@@ -1,7 +1,7 @@
 -- What is known of a program that answered, by its parts.
 use Rattle.std.proofs.Common.{◌≡◌, Result, Ok, Err, refl}
 use Rattle.base_core.specs.declared.refusal.Refusal.{Refusal}
-use Rattle.programs.specs.Programs.{Run, ◌>>=◌, continue_from, refuse, undo_on_refusal, with_undo}
+use Rattle.keeper_core.specs.Programs.{Run, ◌>>=◌, continue_from, refuse, undo_on_refusal, with_undo}
 
 -- a program that went on from an answer and answered: its parts answered, and the world is that of the second
 pub record IsJoined {W A B : Type 0} (m : W → Run W A) (next : A → W → Run W B) (w : W) (b : B) : Type 0 where

@@ -14,16 +14,16 @@ use Rattle.flush_plan.specs.Planning.{plan}
 use Rattle.object_rows.specs.declared.prepared.Prepared.{Prepared}
 use Rattle.row_project.specs.Changes.{project}
 use Rattle.graph_flushed.specs.Flushed.{graph_flushed}
-use Rattle.programs.specs.Store.{Store}
-use Rattle.programs.specs.Programs.{Run, ◌>>=◌, ask, each, give}
+use Rattle.keeper_core.specs.Store.{Store}
+use Rattle.keeper_core.specs.Programs.{Run, ◌>>=◌, ask, each, give}
 use Rattle.savepoints.specs.Scopes.{Framed}
-use Rattle.touching.specs.Touched.{frames_touched_between}
-use Rattle.programs.specs.Beside.{by_own, changes, on_own, on_store}
+use Rattle.object_records.specs.Touched.{frames_touched_between}
+use Rattle.keeper_core.specs.Beside.{by_own, changes, on_own, on_store}
 use Rattle.session_scopes.specs.SessionState.{with_notes, with_warnings}
 use Rattle.session_calls.specs.Parts.{World}
-use Rattle.plan_run.specs.Run.{keys_by_place, send_one, send_plan}
-use Rattle.session_flush.specs.Flush.{flush, give_up, prepare, prepared_of, session_flushed, write_objects, write_prepared, write_rows, write_warned}
-use Rattle.session_flush.specs.Outcome.{changes_of}
+use Rattle.session_statements.specs.Run.{keys_by_place, send_one, send_plan}
+use Rattle.session_acts.specs.Flush.{flush, give_up, prepare, prepared_of, session_flushed, write_objects, write_prepared, write_rows, write_warned}
+use Rattle.session_acts.specs.Outcome.{changes_of}
 use Rattle.session_laws.proofs.Flushes.Answered.{IsDone, IsJoined, done_of, joined_of}
 use Rattle.session_laws.proofs.Flushes.Kept.{IsKeptByWrites, plan_keeps}
 use Rattle.session_laws.proofs.Flushes.Sending.{sent_all, sofar_of}

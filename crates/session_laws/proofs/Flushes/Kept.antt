@@ -8,18 +8,18 @@ use Rattle.schema_core.specs.declared.changes.RowChanges.{RowChanges}
 use Rattle.schema_core.specs.declared.statement.RowStmt.{RowStmt}
 use Rattle.schema_core.specs.Catalog.{Catalog}
 use Rattle.schema_core.specs.WellFormed.{IsWellFormed}
-use Rattle.fitting_statements.specs.Fitting.{fits_schema}
-use Rattle.fitting_statements.proofs.Tests.{fitting}
+use Rattle.plan_statements.specs.Fitting.{fits_schema}
+use Rattle.plan_statements.proofs.Tests.{fitting}
 use Rattle.flush_plan.specs.Flushing.{Keys, keys_then, statement_sent, was_missing}
-use Rattle.programs.specs.Programs.{each, give}
-use Rattle.programs.specs.Beside.{on_store}
+use Rattle.keeper_core.specs.Programs.{each, give}
+use Rattle.keeper_core.specs.Beside.{on_store}
 use Rattle.keeper_core.specs.Calls as call
-use Rattle.legality_laws.specs.Legality.{Keeps}
-use Rattle.legality_laws.proofs.EachJoin.{keeps_each, keeps_give, keeps_refuse, keeps_then}
+use Rattle.table_laws.specs.Legality.{Keeps}
+use Rattle.table_laws.proofs.EachJoin.{keeps_each, keeps_give, keeps_refuse, keeps_then}
 use Rattle.plan_statements.specs.Known.{is_of_rows, is_sendable}
 use Rattle.session_scopes.specs.SessionState.{with_notes}
 use Rattle.session_calls.specs.Parts.{World}
-use Rattle.plan_run.specs.Run.{keys_by_place, keys_unless, send_one, send_plan, write_if}
+use Rattle.session_statements.specs.Run.{keys_by_place, keys_unless, send_one, send_plan, write_if}
 
 -- each statement that fits keeps the property, and the session that notes it
 abbrev pub IsKeptByWrites : Catalog → (World → Type 0) → Type 0

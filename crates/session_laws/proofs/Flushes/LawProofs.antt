@@ -1,7 +1,7 @@
 -- The laws of a flush, of its parts.
 use Rattle.std.proofs.Common.{refl}
 use Rattle.flush_plan.specs.Flushing.{Sofar}
-use Rattle.session_flush.specs.Flush.{flush}
+use Rattle.session_acts.specs.Flush.{flush}
 use Rattle.session_laws.specs.Flushes.{AnswersWhereAccepted, LeavesLegalTables, SendsItsPlan, SendsNothingAgain}
 use Rattle.session_laws.proofs.Flushes.Accepting.{accepted_answers}
 use Rattle.session_laws.proofs.Flushes.Again.{quiet_again}

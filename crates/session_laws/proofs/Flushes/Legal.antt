@@ -6,18 +6,18 @@ use Rattle.schema_core.specs.Catalog.{Catalog}
 use Rattle.flush_plan.specs.Planning.{plan}
 use Rattle.object_rows.specs.declared.prepared.Prepared.{Prepared}
 use Rattle.row_project.specs.Changes.{project}
-use Rattle.programs.specs.Store.{Store}
-use Rattle.programs.specs.Programs.{Run, ◌>>=◌, ask, give}
-use Rattle.programs.specs.Beside.{by_own, changes, on_own, on_store}
+use Rattle.keeper_core.specs.Store.{Store}
+use Rattle.keeper_core.specs.Programs.{Run, ◌>>=◌, ask, give}
+use Rattle.keeper_core.specs.Beside.{by_own, changes, on_own, on_store}
 use Rattle.keeper_core.specs.Calls as call
-use Rattle.legality_laws.specs.Legality.{IsLegalStore, Keeps, KeepsLegal}
-use Rattle.legality_laws.proofs.EachCall.{keeps_rollback, keeps_rollback_to, write_legal}
-use Rattle.legality_laws.proofs.EachJoin.{keeps_give, keeps_guarded, keeps_then}
+use Rattle.table_laws.specs.Legality.{IsLegalStore, Keeps, KeepsLegal}
+use Rattle.table_laws.proofs.EachCall.{keeps_rollback, keeps_rollback_to, write_legal}
+use Rattle.table_laws.proofs.EachJoin.{keeps_give, keeps_guarded, keeps_then}
 use Rattle.session_scopes.specs.Scoping.{session_failed}
 use Rattle.session_scopes.specs.SessionState.{SessionState, with_notes, with_warnings}
 use Rattle.session_calls.specs.Parts.{World, roll_back_scope}
-use Rattle.plan_run.specs.Run.{send_plan}
-use Rattle.session_flush.specs.Flush.{flush, give_up, prepare, prepared_of, session_flushed, write_objects, write_prepared, write_rows, write_warned}
+use Rattle.session_statements.specs.Run.{send_plan}
+use Rattle.session_acts.specs.Flush.{flush, give_up, prepare, prepared_of, session_flushed, write_objects, write_prepared, write_rows, write_warned}
 use Rattle.session_laws.proofs.Flushes.Kept.{IsKeptByWrites, plan_keeps}
 
 module _ (schema : Catalog) where

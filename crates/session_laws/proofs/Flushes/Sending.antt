@@ -9,14 +9,14 @@ use Rattle.schema_core.specs.declared.statement.Violation.TheVariants.{Missing}
 use Rattle.schema_core.specs.Apply.{Outcome, apply}
 use Rattle.schema_core.specs.Catalog.{Catalog}
 use Rattle.flush_plan.specs.Flushing.{Flushed, Keys, Sofar, after_outcome, keys_then, send, send_all, statement_sent, table_of, was_missing}
-use Rattle.programs.specs.Programs.{Run, each, give, refuse}
-use Rattle.programs.specs.Beside.{on_store}
+use Rattle.keeper_core.specs.Programs.{Run, each, give, refuse}
+use Rattle.keeper_core.specs.Beside.{on_store}
 use Rattle.keeper_core.specs.Calls as call
 use Rattle.keeper_core.specs.Calls.{run_of_write}
 use Rattle.session_scopes.specs.SessionState.{with_notes}
 use Rattle.session_calls.specs.Parts.{World}
 use Rattle.plan_statements.specs.Known.{is_sendable}
-use Rattle.plan_run.specs.Run.{keys_unless, send_one, write_if}
+use Rattle.session_statements.specs.Run.{keys_unless, send_one, write_if}
 use Rattle.session_laws.proofs.Flushes.Answered.{IsJoined, joined_of}
 
 -- the tables of a world, and the keys that are known there

@@ -1,11 +1,11 @@
 -- A flush over a keeper that tells is the flush of what it told.
 use Rattle.std.proofs.Common.{◌≡◌, Option, None, Some, Ok, ap, subst}
-use Rattle.programs.specs.Store.{Store}
-use Rattle.programs.specs.Moment.{AsTold, Moment, Told, parts}
-use Rattle.programs.specs.Beside.{moment_beside, told_beside}
+use Rattle.keeper_core.specs.Store.{Store}
+use Rattle.keeper_core.specs.Moment.{AsTold, Moment, Told, parts}
+use Rattle.keeper_core.specs.Beside.{moment_beside, told_beside}
 use Rattle.session_scopes.specs.SessionState.{SessionState}
 use Rattle.session_calls.specs.Calling.{IsSessionCall}
-use Rattle.session_flush.specs.Flush.{flush}
+use Rattle.session_acts.specs.Flush.{flush}
 use Rattle.session_laws.specs.Flushes.{IsRunOf, world_of}
 
 told_then : (own now : SessionState) (told : Told Store) (new : Option (Told Store)) → AsTold (λ (u : Unit {0}). u) flush (told_beside own (Some told)) (Ok tt) (told_beside now new) → IsRunOf (world_of own told) now new

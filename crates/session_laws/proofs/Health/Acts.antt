@@ -22,9 +22,9 @@ use Rattle.object_arena.specs.Graph.{Graph, IsObject, either_fault, is_persisten
 use Rattle.object_arena.specs.Identity.{is_identified}
 use Rattle.object_rows.specs.Seen.{object_ids}
 use Rattle.object_rows.proofs.ObjectSteps.{all_made}
-use Rattle.flush_laws.proofs.Projects.LateKeys.{each_has}
-use Rattle.programs.specs.Programs.{Event, Run, ◌>>=◌, continue_from, give, refuse}
-use Rattle.programs.specs.Beside.{by_own, changes, on_store}
+use Rattle.session_laws.proofs.Projects.LateKeys.{each_has}
+use Rattle.keeper_core.specs.Programs.{Event, Run, ◌>>=◌, continue_from, give, refuse}
+use Rattle.keeper_core.specs.Beside.{by_own, changes, on_store}
 use Rattle.savepoints.specs.declared.scope.Scope.{Scope}
 use Rattle.savepoints.specs.Scopes.{begun_at}
 use Rattle.sql_semantics.specs.Plain.{IsPlainBulk}
@@ -36,8 +36,8 @@ use Rattle.session_calls.specs.Steps.{begin_unless, enter, pending_fault}
 use Rattle.session_calls.proofs.Acting.{no_scope_open}
 use Rattle.session_acts.specs.Savepoints.{begin_savepoint, check_handle, commit_whole, enter_nested, handle_fault, limit_fault, release_handle}
 use Rattle.session_statements.specs.Steps as statements
-use Rattle.session_flush.specs.Flush.{flush, is_to_delete, prepared_of}
-use Rattle.session_flush.specs.Outcome.{changes_of}
+use Rattle.session_acts.specs.Flush.{flush, is_to_delete, prepared_of}
+use Rattle.session_acts.specs.Outcome.{changes_of}
 use Rattle.session_laws.proofs.Flushes.Flushing.{IsFlushSent, flush_sent}
 use Rattle.session_acts.specs.Steps as acts
 use Rattle.session_acts.specs.Steps.{IsPlainButForKeys, flush_now, flush_whole, flushing, orphan_fault}
@@ -47,8 +47,8 @@ use Rattle.session_laws.proofs.Sound.Programs.{checked_none, checked_same}
 use Rattle.session_laws.proofs.Calls.Nesting.{nest_sound}
 use Rattle.session_laws.proofs.Calls.Rereading.{bulk_sound, rows_sound}
 use Rattle.session_laws.proofs.Calls.Whole.{handle_released, whole_sound}
-use Rattle.flush_laws.specs.OwnRows.{LeavesUnlinked}
-use Rattle.flush_laws.proofs.OwnRows.PairsOnce.{unlinked_once}
+use Rattle.session_laws.specs.OwnRows.{LeavesUnlinked}
+use Rattle.session_laws.proofs.OwnRows.PairsOnce.{unlinked_once}
 use Rattle.session_laws.specs.SoundFlushes.{IsToldSession, ToldFlushIsSound, ToldFlushKeepsSound}
 use Rattle.session_laws.specs.Health.Health.{HoldsItsKey, IsHealthy, IsWhole, KeepsHealthWhole, is_named}
 use Rattle.session_laws.proofs.Health.Fits.{flushed_fit}

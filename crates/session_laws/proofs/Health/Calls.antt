@@ -7,18 +7,18 @@ use Rattle.base_core.specs.declared.refusal.Refusal.{Refusal}
 use Rattle.base_core.specs.declared.value.Value.{Value}
 use Rattle.class_types.specs.Rules.{Rules}
 use Rattle.class_mapping.specs.Mapped.{Mapped}
-use Rattle.legality_laws.specs.Legality.{Keeps}
-use Rattle.legality_laws.proofs.Dropped.{no_tables_ascend}
+use Rattle.table_laws.specs.Legality.{Keeps}
+use Rattle.table_laws.proofs.Dropped.{no_tables_ascend}
 use Rattle.object_arena.specs.Graph.{IsObject}
-use Rattle.flush_laws.specs.Graphs.{IsWellMapped}
-use Rattle.programs.specs.Beside.{on_own}
+use Rattle.session_laws.specs.Graphs.{IsWellMapped}
+use Rattle.keeper_core.specs.Beside.{on_own}
 use Rattle.session_scopes.specs.SessionState.{SessionState, new_session}
 use Rattle.session_calls.specs.Parts.{World, checked}
 use Rattle.session_calls.specs.Steps.{enter, set_cell}
 use Rattle.session_tables.specs.Steps.{change_all}
 use Rattle.session_tables.specs.declared.tables.TableChange.{TableChange}
 use Rattle.session_tables.specs.declared.tables.TableChange.TheVariants.{Create, Drop}
-use Rattle.session_values.specs.Steps.{cell_kept, given_fault, made_unless, set_inside, set_judged, set_valid, valid_made, value_invalid}
+use Rattle.session_objects.specs.ValueSteps.{cell_kept, given_fault, made_unless, set_inside, set_judged, set_valid, valid_made, value_invalid}
 use Rattle.session_laws.specs.Sound.{IsSound}
 use Rattle.session_laws.proofs.Sound.Beginning.{new_sound}
 use Rattle.session_laws.proofs.Sound.Ending.{close_sound}

@@ -20,8 +20,8 @@ use Rattle.object_rows.specs.declared.prepared.Prepared.{Prepared}
 use Rattle.graph_flushed.specs.Flushed.{Written, deleted_object, graph_flushed, graph_written, key_of, new_object, object_flushed, object_in, staying_object, written_with}
 use Rattle.graph_flushed.proofs.FitSteps.{flushed_fits}
 use Rattle.graph_flushed.proofs.Flushes.Fitting.{flushes_fit}
-use Rattle.flush_laws.specs.Graphs.{IsWellMapped}
-use Rattle.flush_laws.proofs.OwnRows.Standing.{hierarchies}
+use Rattle.session_laws.specs.Graphs.{IsWellMapped}
+use Rattle.session_laws.proofs.OwnRows.Standing.{hierarchies}
 
 -- ---- the objects keep their classes
 

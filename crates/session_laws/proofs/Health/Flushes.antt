@@ -8,20 +8,20 @@ use Rattle.flush_plan.specs.Planning.{plan}
 use Rattle.object_rows.specs.declared.prepared.Prepared.{Prepared}
 use Rattle.row_project.specs.Changes.{project}
 use Rattle.keeper_core.specs.Calls as call
-use Rattle.legality_laws.specs.Legality.{Keeps, KeepsAscending}
-use Rattle.legality_laws.proofs.EachCall.{write_ascends}
-use Rattle.legality_laws.proofs.EachJoin.{keeps_give, keeps_then}
+use Rattle.table_laws.specs.Legality.{Keeps, KeepsAscending}
+use Rattle.table_laws.proofs.EachCall.{write_ascends}
+use Rattle.table_laws.proofs.EachJoin.{keeps_give, keeps_then}
 use Rattle.object_arena.specs.declared.object.Object.{Object}
 use Rattle.object_arena.specs.Identity.{is_identified}
-use Rattle.plan_run.specs.Run.{send_plan}
-use Rattle.programs.specs.Programs.{Run, ◌>>=◌, ask, give, refuse, undo_on_refusal, with_undo}
-use Rattle.programs.specs.Beside.{by_own, changes, on_own, on_store}
-use Rattle.programs.specs.Store.{Store}
+use Rattle.session_statements.specs.Run.{send_plan}
+use Rattle.keeper_core.specs.Programs.{Run, ◌>>=◌, ask, give, refuse, undo_on_refusal, with_undo}
+use Rattle.keeper_core.specs.Beside.{by_own, changes, on_own, on_store}
+use Rattle.keeper_core.specs.Store.{Store}
 use Rattle.savepoints.specs.declared.scope.Scope.{Scope}
 use Rattle.session_scopes.specs.Scoping.{session_failed, session_restored}
 use Rattle.session_scopes.specs.SessionState.{SessionState, with_notes, with_warnings}
 use Rattle.session_calls.specs.Parts.{World}
-use Rattle.session_flush.specs.Flush.{flush, give_up, prepare, prepared_of, session_flushed, write_objects, write_prepared, write_rows, write_warned}
+use Rattle.session_acts.specs.Flush.{flush, give_up, prepare, prepared_of, session_flushed, write_objects, write_prepared, write_rows, write_warned}
 use Rattle.session_laws.proofs.Flushes.Answered.{IsDone, done_of}
 use Rattle.session_laws.proofs.Flushes.Kept.{IsKeptByWrites, plan_keeps}
 use Rattle.session_laws.specs.Sound.{EachObject}

@@ -28,7 +28,7 @@ use Rattle.session_laws.proofs.Sound.Everyone.{expired_cells}
 use Rattle.session_laws.proofs.Sound.Objects.{base_kept, cells_long}
 use Rattle.session_laws.proofs.Calls.Adding.{marked_left}
 use Rattle.session_laws.proofs.Calls.Rereading.{both_false}
-use Rattle.touching.proofs.Exact.{value_itself}
+use Rattle.object_records.proofs.Exact.{value_itself}
 use Rattle.session_laws.specs.Health.Health.{HoldsItsKey, IsOrderly, is_named}
 
 -- the cell holds what its row holds, or nothing is known of it

@@ -13,15 +13,15 @@ use Rattle.schema_core.specs.Tables.{AreAscending}
 use Rattle.expr_types.specs.declared.select.Bulk.{Bulk}
 use Rattle.expr_types.specs.declared.select.Select.{Select}
 use Rattle.keeper_core.specs.Calls as call
-use Rattle.legality_laws.specs.Legality.{Keeps, KeepsAscending}
-use Rattle.legality_laws.proofs.Accepted.{keeps_bulk_ascending}
-use Rattle.legality_laws.proofs.EachCall.{create_ascends, drop_ascends, keeps_begin, keeps_commit, keeps_query, keeps_release, keeps_rollback, keeps_rollback_to, keeps_savepoint}
-use Rattle.legality_laws.proofs.EachJoin.{keeps_each, keeps_give, keeps_refuse, keeps_then}
+use Rattle.table_laws.specs.Legality.{Keeps, KeepsAscending}
+use Rattle.table_laws.proofs.Accepted.{keeps_bulk_ascending}
+use Rattle.table_laws.proofs.EachCall.{create_ascends, drop_ascends, keeps_begin, keeps_commit, keeps_query, keeps_release, keeps_rollback, keeps_rollback_to, keeps_savepoint}
+use Rattle.table_laws.proofs.EachJoin.{keeps_each, keeps_give, keeps_refuse, keeps_then}
 use Rattle.object_arena.specs.Graph.{object_at, value_fault}
 use Rattle.object_arena.specs.Identity.{is_identified}
-use Rattle.programs.specs.Programs.{Run, ◌>>=◌, continue_from, each, give, refuse}
-use Rattle.programs.specs.Beside.{by_own, changes, on_own, on_store}
-use Rattle.programs.specs.Store.{Store}
+use Rattle.keeper_core.specs.Programs.{Run, ◌>>=◌, continue_from, each, give, refuse}
+use Rattle.keeper_core.specs.Beside.{by_own, changes, on_own, on_store}
+use Rattle.keeper_core.specs.Store.{Store}
 use Rattle.relations.specs.declared.calls.LinkCall.{LinkCall}
 use Rattle.sql_semantics.specs.Applied.{table_of}
 use Rattle.session_parts.specs.Ends.{object_committed_in}

@@ -32,7 +32,7 @@ use Rattle.session_objects.specs.Taking.{added_then, coming_objects, session_add
 use Rattle.session_objects.proofs.TakingLemmas.{state_left}
 use Rattle.session_links.specs.Linking.{child_of, coming_along, session_by, session_changed, session_linked, session_orphaned, session_put}
 use Rattle.session_statements.specs.Rewriting.{expired_if, graph_reread, is_reread, reread_of, session_reread}
-use Rattle.session_flush.specs.Flush.{session_flushed}
+use Rattle.session_acts.specs.Flush.{session_flushed}
 use Rattle.session_laws.specs.Sound.{EachObject, IsSettled}
 use Rattle.session_laws.proofs.Sound.Everyone.{changed_at, each_changed}
 use Rattle.session_laws.proofs.Sound.Touches.{between_scopes}

@@ -1,10 +1,10 @@
 -- What a keeper tells after a call of a session is what the call's program leaves.
 use Rattle.std.proofs.Common.{◌≡◌, Bool, false, Option, None, Some, MatchBool, Result, Ok, Err, IfErr, IfSome, sym, subst}
 use Rattle.base_core.specs.declared.refusal.Refusal.{Refusal}
-use Rattle.programs.specs.Beside.{moment_beside, told_beside}
-use Rattle.programs.specs.Moment.{AsTold, IsCutOff, IsRun, Moment, Told, parts}
-use Rattle.programs.specs.Programs.{Run, ends_early}
-use Rattle.programs.specs.Store.{Store}
+use Rattle.keeper_core.specs.Beside.{moment_beside, told_beside}
+use Rattle.keeper_core.specs.Moment.{AsTold, IsCutOff, IsRun, Moment, Told, parts}
+use Rattle.keeper_core.specs.Programs.{Run, ends_early}
+use Rattle.keeper_core.specs.Store.{Store}
 use Rattle.session_calls.specs.Calling.{IsSessionCall}
 use Rattle.session_calls.specs.Parts.{World}
 use Rattle.session_laws.specs.Flushes.{world_of}

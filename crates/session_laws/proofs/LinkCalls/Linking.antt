@@ -16,8 +16,8 @@ use Rattle.object_arena.specs.declared.object.Object.{Object}
 use Rattle.object_arena.specs.Fit.{IsFit}
 use Rattle.object_arena.specs.Graph.{Graph, IsObject, either_fault, object_at, with_link}
 use Rattle.object_arena.specs.Identity.{id_of_place}
-use Rattle.programs.specs.Store.{Store}
-use Rattle.programs.specs.Beside.{changes, on_own}
+use Rattle.keeper_core.specs.Store.{Store}
+use Rattle.keeper_core.specs.Beside.{changes, on_own}
 use Rattle.relations.specs.declared.calls.LinkCall.{LinkCall}
 use Rattle.relations.specs.declared.change.Change.{Change}
 use Rattle.relations.specs.declared.change.LinkPut.{LinkPut}

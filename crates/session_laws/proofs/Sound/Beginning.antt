@@ -9,9 +9,9 @@ use Rattle.object_arena.specs.declared.object.Object.{Object}
 use Rattle.object_arena.specs.declared.object.State.TheVariants.{Pending, Transient}
 use Rattle.object_arena.specs.Graph.{Graph, no_class_id, no_object}
 use Rattle.object_arena.specs.Identity.{IsGraph, holds, is_identified}
-use Rattle.programs.specs.Store.{Store}
-use Rattle.programs.specs.Programs.{Event, ◌>>=◌, give, refuse}
-use Rattle.programs.specs.Beside.{by_own, changes, on_store}
+use Rattle.keeper_core.specs.Store.{Store}
+use Rattle.keeper_core.specs.Programs.{Event, ◌>>=◌, give, refuse}
+use Rattle.keeper_core.specs.Beside.{by_own, changes, on_store}
 use Rattle.schema_core.specs.Tables.{Legal, Tables}
 use Rattle.savepoints.specs.declared.scope.Scope.{Scope}
 use Rattle.savepoints.specs.declared.scope.Standing.{Standing}

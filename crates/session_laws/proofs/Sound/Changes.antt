@@ -8,13 +8,13 @@ use Rattle.class_mapping.specs.Mapped.{Mapped}
 use Rattle.object_arena.specs.declared.object.Object.{Object}
 use Rattle.object_arena.specs.Graph.{Graph, IsObject, no_object, object_at, place_of, with_object}
 use Rattle.object_arena.specs.Identity.{IsGraph}
-use Rattle.programs.specs.Store.{Store}
+use Rattle.keeper_core.specs.Store.{Store}
 use Rattle.savepoints.specs.declared.scope.Scope.{Scope}
 use Rattle.savepoints.specs.Scopes.{Framed, is_touched, standing_at}
 use Rattle.schema_core.specs.Tables.{Legal, Tables}
 use Rattle.session_parts.specs.Depths.{has_scope}
 use Rattle.session_scopes.specs.SessionState.{SessionState, with_graph}
-use Rattle.touching.specs.Touched.{frames_touched_between}
+use Rattle.object_records.specs.Touched.{frames_touched_between}
 use Rattle.session_laws.specs.Sound.{AreApart, AreSoundScopes, EachObject, IsAsAtStart, IsFresh, IsMarkedRight, IsSound, RestIf}
 use Rattle.session_laws.proofs.Sound.Touches.{IsLeft, between_scopes, left_alone}
 

@@ -7,9 +7,9 @@ use Rattle.keeper_core.specs.Calls as call
 use Rattle.object_arena.specs.declared.object.State.{State}
 use Rattle.object_arena.specs.declared.object.State.TheVariants.{Transient, Pending, Persistent, Deleted, Detached}
 use Rattle.object_arena.specs.Graph.{Graph, has_identity, is_persistent, kept_identity}
-use Rattle.programs.specs.Store.{Store, committed_of, outermost}
-use Rattle.programs.specs.Programs.{◌>>=◌, give}
-use Rattle.programs.specs.Beside.{by_own, changes, on_store}
+use Rattle.keeper_core.specs.Store.{Store, committed_of, outermost}
+use Rattle.keeper_core.specs.Programs.{◌>>=◌, give}
+use Rattle.keeper_core.specs.Beside.{by_own, changes, on_store}
 use Rattle.schema_core.specs.Tables.{Legal, Tables}
 use Rattle.savepoints.specs.declared.scope.Scope.{Scope}
 use Rattle.savepoints.specs.Scopes.{Framed}

@@ -16,8 +16,8 @@ use Rattle.object_arena.specs.Graph.{Graph, IsObject, cell_in, cell_put, expired
 use Rattle.object_arena.specs.Identity.{IsGraph}
 use Rattle.object_arena.proofs.GraphLemmas.{graph_kept}
 use Rattle.class_mapping.specs.Mapped.{Mapped}
-use Rattle.programs.specs.Store.{Store}
-use Rattle.programs.specs.Beside.{on_own}
+use Rattle.keeper_core.specs.Store.{Store}
+use Rattle.keeper_core.specs.Beside.{on_own}
 use Rattle.schema_core.specs.Tables.{Tables}
 use Rattle.session_parts.specs.Depths.{has_scope}
 use Rattle.session_scopes.specs.Changes.{cell_read, delete_fault, deletion_marked, has_links, is_known, value_put}

@@ -2,9 +2,9 @@
 use Rattle.std.proofs.Common.{◌≡◌, true, List, Option, None, Some, Result, Ok, Err, refl, sym, subst}
 use Rattle.base_core.specs.declared.refusal.Refusal.{Refusal}
 use Rattle.object_arena.specs.Graph.{Graph}
-use Rattle.programs.specs.Store.{Store}
-use Rattle.programs.specs.Programs.{Event, Run, ◌>>=◌, continue_from, give, refuse}
-use Rattle.programs.specs.Beside.{by_own, on_own}
+use Rattle.keeper_core.specs.Store.{Store}
+use Rattle.keeper_core.specs.Programs.{Event, Run, ◌>>=◌, continue_from, give, refuse}
+use Rattle.keeper_core.specs.Beside.{by_own, on_own}
 use Rattle.session_parts.specs.Depths.{has_scope}
 use Rattle.session_scopes.specs.Changes.{changed_unless}
 use Rattle.session_scopes.specs.SessionState.{SessionState, with_graph}

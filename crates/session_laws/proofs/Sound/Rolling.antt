@@ -10,10 +10,10 @@ use Rattle.base_core.specs.declared.ids.ClassId.{ClassId}
 use Rattle.class_mapping.specs.Mapped.{Mapped}
 use Rattle.object_arena.specs.Graph.{Graph, no_object}
 use Rattle.object_arena.specs.Identity.{IsGraph}
-use Rattle.programs.specs.Store.{Store, committed_of, outermost}
+use Rattle.keeper_core.specs.Store.{Store, committed_of, outermost}
 use Rattle.base_core.specs.declared.refusal.Refusal.{Refusal}
-use Rattle.programs.specs.Programs.{◌>>=◌, continue_from, give, refuse}
-use Rattle.programs.specs.Beside.{by_own, changes, on_store}
+use Rattle.keeper_core.specs.Programs.{◌>>=◌, continue_from, give, refuse}
+use Rattle.keeper_core.specs.Beside.{by_own, changes, on_store}
 use Rattle.schema_core.specs.Tables.{Tables}
 use Rattle.savepoints.specs.declared.scope.Scope.{Scope}
 use Rattle.savepoints.specs.Scopes.{Framed, around, is_touched, no_scope, restored_graph, scope_at, standing_at}

@@ -9,9 +9,9 @@ use Rattle.object_arena.specs.Identity.{id_of_place}
 use Rattle.savepoints.specs.Scopes.{Framed, is_touched, touch}
 use Rattle.session_laws.specs.Scopes.{Touch}
 use Rattle.session_laws.proofs.Scopes.Traces.{touch_long, touch_touches, touches_grow}
-use Rattle.touching.specs.Same.{same_object}
-use Rattle.touching.specs.Touched.{differs, frames_touched_between, frames_with_touched}
-use Rattle.touching.proofs.Exact.{records_same}
+use Rattle.object_records.specs.Same.{same_object}
+use Rattle.object_records.specs.Touched.{differs, frames_touched_between, frames_with_touched}
+use Rattle.object_records.proofs.Exact.{records_same}
 
 -- ---- one touch after another
 

@@ -8,10 +8,10 @@ use Rattle.object_arena.specs.Graph.{Graph, IsObject, is_persistent, no_object, 
 use Rattle.object_rows.specs.Seen.{object_ids}
 use Rattle.object_rows.proofs.ObjectSteps.{all_made}
 use Rattle.session_calls.specs.Parts.{World}
-use Rattle.session_flush.specs.Flush.{is_to_delete, prepared_of}
+use Rattle.session_acts.specs.Flush.{is_to_delete, prepared_of}
 use Rattle.session_laws.specs.Sound.{EachObject, IsSound}
-use Rattle.flush_laws.proofs.OwnRows.PairsOnce.{unmarked_once}
-use Rattle.flush_laws.proofs.OwnRows.Standing.{hierarchies}
+use Rattle.session_laws.proofs.OwnRows.PairsOnce.{unmarked_once}
+use Rattle.session_laws.proofs.OwnRows.Standing.{hierarchies}
 use Rattle.session_laws.specs.SoundFlushes.{AddingFlushKeepsSound, DeletesNothing, IsToldSession, ToldFlushKeepsSound}
 
 none_kept : {A : Type 0} (test : A → Bool) (xs : List A) → AllByRecursion (λ x. test x ≡ false) xs → filter test xs ≡ []

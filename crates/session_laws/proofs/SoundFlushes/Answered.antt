@@ -23,19 +23,19 @@ use Rattle.graph_flushed.proofs.ObjectSteps.{flushed_at, flushed_long}
 use Rattle.savepoints.specs.declared.scope.Scope.{Scope}
 use Rattle.savepoints.specs.Scopes.{Framed}
 use Rattle.session_parts.specs.Depths.{has_scope}
-use Rattle.touching.specs.Touched.{frames_touched_between}
+use Rattle.object_records.specs.Touched.{frames_touched_between}
 use Rattle.session_scopes.specs.SessionState.{with_graph}
 use Rattle.session_calls.specs.Parts.{World}
-use Rattle.session_flush.specs.Flush.{flush, prepared_of}
-use Rattle.session_flush.specs.Outcome.{changes_of}
+use Rattle.session_acts.specs.Flush.{flush, prepared_of}
+use Rattle.session_acts.specs.Outcome.{changes_of}
 use Rattle.session_laws.specs.Flushes.{LeavesLegalTables}
 use Rattle.session_laws.proofs.Flushes.Again.{here_at, prepared_among}
 use Rattle.session_laws.proofs.Flushes.Flushing.{IsFlushSent}
-use Rattle.legality_laws.specs.Legality.{AreSound, IsAscendingStore}
+use Rattle.table_laws.specs.Legality.{AreSound, IsAscendingStore}
 use Rattle.session_laws.specs.Sound.{AreSoundScopes, EachObject, IsFresh, IsMarkedRight, IsSettled, IsSound, IsWritten, RestIf, in_row, row_for}
 use Rattle.session_laws.proofs.Sound.Changes.{changed_sound}
 use Rattle.session_laws.proofs.Sound.Everyone.{identified_as}
-use Rattle.flush_laws.specs.Held.{column_in}
+use Rattle.session_laws.specs.Held.{column_in}
 use Rattle.session_laws.proofs.SoundFlushes.One.{written_graph}
 
 -- ---- what is known of an object

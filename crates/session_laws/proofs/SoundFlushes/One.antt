@@ -22,7 +22,7 @@ use Rattle.object_arena.specs.declared.object.State.TheVariants.{Transient, Pend
 use Rattle.object_arena.specs.Graph.{has_identity, is_among, is_persistent, no_class_id, no_object, root_at}
 use Rattle.object_arena.specs.Identity.{IsGraph, has_key, holds, holds_at, id_of_place, is_identified, is_other}
 use Rattle.object_arena.proofs.GraphLemmas.{held_inside}
-use Rattle.flush_laws.proofs.Plans.Facts.{true_false}
+use Rattle.session_laws.proofs.Plans.Facts.{true_false}
 use Rattle.graph_flushed.specs.Flushed.{Written, deleted_object, graph_written, key_of, new_object, object_in, staying_object, state_under, state_unless}
 use Rattle.graph_flushed.specs.Keys.{is_given, new_holder}
 use Rattle.graph_flushed.proofs.ObjectSteps.{flushed_at, flushed_long}

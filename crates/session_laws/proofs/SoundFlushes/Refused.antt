@@ -9,10 +9,10 @@ use Rattle.object_arena.specs.Identity.{IsGraph}
 use Rattle.object_rows.specs.declared.prepared.Prepared.{Prepared}
 use Rattle.flush_plan.specs.Planning.{plan}
 use Rattle.row_project.specs.Changes.{project}
-use Rattle.plan_run.specs.Run.{send_plan}
-use Rattle.programs.specs.Store.{Store}
-use Rattle.programs.specs.Programs.{Event, Run, ◌>>=◌, ask, continue_from, give, refuse, undo_on_refusal, with_undo}
-use Rattle.programs.specs.Beside.{by_own, changes, on_own, on_store}
+use Rattle.session_statements.specs.Run.{send_plan}
+use Rattle.keeper_core.specs.Store.{Store}
+use Rattle.keeper_core.specs.Programs.{Event, Run, ◌>>=◌, ask, continue_from, give, refuse, undo_on_refusal, with_undo}
+use Rattle.keeper_core.specs.Beside.{by_own, changes, on_own, on_store}
 use Rattle.savepoints.specs.Scopes.{Framed}
 use Rattle.schema_core.specs.Apply.{Outcome, apply}
 use Rattle.schema_core.specs.declared.changes.RowChanges.{RowChanges}
@@ -21,7 +21,7 @@ use Rattle.schema_core.specs.Catalog.{Catalog}
 use Rattle.session_scopes.specs.Scoping.{session_failed}
 use Rattle.session_scopes.specs.SessionState.{SessionState, with_notes, with_warnings}
 use Rattle.session_calls.specs.Parts.{World, roll_back_scope}
-use Rattle.session_flush.specs.Flush.{flush, give_up, prepare, session_flushed, write_objects, write_prepared, write_rows, write_warned}
+use Rattle.session_acts.specs.Flush.{flush, give_up, prepare, session_flushed, write_objects, write_prepared, write_rows, write_warned}
 use Rattle.session_laws.proofs.Flushes.Kept.{IsKeptByWrites, plan_keeps}
 use Rattle.session_laws.specs.Sound.{AreSoundScopes, IsSound}
 use Rattle.session_laws.proofs.Sound.Rolling.{HasSoundScopes, answered_back, scope_rolled_back}

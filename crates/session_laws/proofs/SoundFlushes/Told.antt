@@ -15,15 +15,15 @@ use Rattle.object_rows.specs.Seen.{object_ids}
 use Rattle.graph_flushed.specs.Flushed.{Written, graph_written}
 use Rattle.graph_flushed.proofs.ObjectSteps.{flushed_long}
 use Rattle.session_calls.specs.Parts.{World}
-use Rattle.session_flush.specs.Flush.{flush, prepared_of}
+use Rattle.session_acts.specs.Flush.{flush, prepared_of}
 use Rattle.session_laws.specs.Flushes.{LeavesLegalTables}
 use Rattle.session_laws.proofs.Flushes.Again.{here_at}
 use Rattle.session_laws.proofs.Flushes.Flushing.{IsFlushSent, flush_sent}
 use Rattle.session_laws.specs.Sound.{EachObject, IsFresh, IsSound, in_row, row_for}
-use Rattle.flush_laws.proofs.Held.Ascending.{ascending_sorted}
-use Rattle.flush_laws.specs.OwnRows.{ObjectsHaveOwnRows, StandInTables}
-use Rattle.flush_laws.proofs.OwnRows.Standing.{hierarchies}
-use Rattle.flush_laws.specs.Held.{AreHeld, FlushedObjectsHold, HoldsItsRows, IsWhollyKnown, column_in, held_in}
+use Rattle.session_laws.proofs.Held.Ascending.{ascending_sorted}
+use Rattle.session_laws.specs.OwnRows.{ObjectsHaveOwnRows, StandInTables}
+use Rattle.session_laws.proofs.OwnRows.Standing.{hierarchies}
+use Rattle.session_laws.specs.Held.{AreHeld, FlushedObjectsHold, HoldsItsRows, IsWhollyKnown, column_in, held_in}
 use Rattle.session_laws.specs.SoundFlushes.{IsToldSession, RefusedFlushIsSound, ToldFlushIsSound, ToldFlushKeepsSound}
 use Rattle.session_laws.proofs.SoundFlushes.Answered.{answered, in_row_is, is, left_legal, persists_there, row_is, written}
 

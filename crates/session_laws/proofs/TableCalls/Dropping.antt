@@ -5,13 +5,13 @@ use Rattle.std.specs.List.{AllByRecursion}
 use Rattle.base_core.specs.declared.ids.TableId.{TableId}
 use Rattle.schema_core.specs.DependencyOrder.{dependency_order}
 use Rattle.schema_core.specs.Tables.{is_created}
-use Rattle.programs.specs.Beside.{by_own, on_store}
-use Rattle.programs.specs.Programs.{Run, ◌>>=◌, each, give}
-use Rattle.programs.specs.Store.{Store}
+use Rattle.keeper_core.specs.Beside.{by_own, on_store}
+use Rattle.keeper_core.specs.Programs.{Run, ◌>>=◌, each, give}
+use Rattle.keeper_core.specs.Store.{Store}
 use Rattle.keeper_core.specs.Calls as call
-use Rattle.legality_laws.specs.Legality.{IsAscendingStore, IsLegalStore, Keeps, drop_each, drop_one}
-use Rattle.legality_laws.proofs.Dropped.{keeps_dropping}
-use Rattle.legality_laws.proofs.EachJoin.{keeps_each, keeps_give, keeps_then}
+use Rattle.table_laws.specs.Legality.{IsAscendingStore, IsLegalStore, Keeps, drop_each, drop_one}
+use Rattle.table_laws.proofs.Dropped.{keeps_dropping}
+use Rattle.table_laws.proofs.EachJoin.{keeps_each, keeps_give, keeps_then}
 use Rattle.session_scopes.specs.SessionState.{AreAlikeButNotes, with_notes}
 use Rattle.session_calls.specs.Parts.{World}
 use Rattle.session_laws.specs.Sound.{IsSound, KeepsSoundWhere}

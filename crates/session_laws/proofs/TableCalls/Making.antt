@@ -14,13 +14,13 @@ use Rattle.object_arena.specs.declared.object.Object.{Object}
 use Rattle.object_arena.specs.Graph.{Graph}
 use Rattle.savepoints.specs.declared.scope.Scope.{Scope}
 use Rattle.keeper_core.specs.declared.notes.Note.{Note}
-use Rattle.programs.specs.Beside.{by_own, on_store}
-use Rattle.programs.specs.Programs.{Event, each, give}
-use Rattle.programs.specs.Store.{Store}
+use Rattle.keeper_core.specs.Beside.{by_own, on_store}
+use Rattle.keeper_core.specs.Programs.{Event, each, give}
+use Rattle.keeper_core.specs.Store.{Store}
 use Rattle.keeper_core.specs.Calls as call
-use Rattle.legality_laws.specs.Legality.{AreSound, IsAscendingStore, IsLegalStore, Keeps}
-use Rattle.legality_laws.proofs.EachCall.{create_legal}
-use Rattle.legality_laws.proofs.EachJoin.{keeps_each, keeps_give, keeps_then}
+use Rattle.table_laws.specs.Legality.{AreSound, IsAscendingStore, IsLegalStore, Keeps}
+use Rattle.table_laws.proofs.EachCall.{create_legal}
+use Rattle.table_laws.proofs.EachJoin.{keeps_each, keeps_give, keeps_then}
 use Rattle.session_scopes.specs.SessionState.{AreAlikeButNotes, SessionState, depth_in, depth_of, with_notes}
 use Rattle.session_calls.specs.Parts.{World}
 use Rattle.session_laws.specs.Sound.{AreSoundScopes, EachObject, IsAtRest, IsFresh, IsSound, KeepsSoundWhere, RestIf}

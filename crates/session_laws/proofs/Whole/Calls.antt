@@ -5,7 +5,7 @@ use Rattle.class_types.specs.Rules.{Rules}
 use Rattle.class_mapping.specs.Mapped.{Mapped}
 use Rattle.object_arena.specs.Graph.{empty_graph}
 use Rattle.object_arena.proofs.FitLemmas.{fit_empty}
-use Rattle.flush_laws.specs.Graphs.{IsWellMapped}
+use Rattle.session_laws.specs.Graphs.{IsWellMapped}
 use Rattle.savepoints.specs.Scopes.{HasKeys}
 use Rattle.session_calls.specs.Parts.{World}
 use Rattle.session_laws.specs.Health.Calls.{Call, MayCall, after_call, after_calls}

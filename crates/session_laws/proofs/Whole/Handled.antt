@@ -14,12 +14,12 @@ use Rattle.class_types.specs.Rules.{Rules}
 use Rattle.expr_types.specs.declared.select.Bulk.{Bulk}
 use Rattle.expr_types.specs.declared.select.Select.{Select}
 use Rattle.keeper_core.specs.Calls as call
-use Rattle.legality_laws.specs.Legality.{Keeps}
+use Rattle.table_laws.specs.Legality.{Keeps}
 use Rattle.object_arena.specs.Graph.{Graph, key_fault, make, object_at, value_fault, with_link, with_object, with_value}
 use Rattle.graph_flushed.specs.Flushed.{graph_flushed}
-use Rattle.programs.specs.Programs.{Event, Run, ◌>>=◌, continue_from, give, refuse, undo_on_refusal, with_undo}
-use Rattle.programs.specs.Beside.{by_own, changes, on_own, on_store}
-use Rattle.programs.specs.Store.{Store}
+use Rattle.keeper_core.specs.Programs.{Event, Run, ◌>>=◌, continue_from, give, refuse, undo_on_refusal, with_undo}
+use Rattle.keeper_core.specs.Beside.{by_own, changes, on_own, on_store}
+use Rattle.keeper_core.specs.Store.{Store}
 use Rattle.relations.specs.declared.calls.LinkCall.{LinkCall}
 use Rattle.relations.specs.declared.change.Change.{Change}
 use Rattle.relations.specs.declared.change.LinkPut.{LinkPut}
@@ -48,12 +48,12 @@ use Rattle.session_statements.specs.Rewriting.{graph_reread}
 use Rattle.session_statements.specs.Steps as statements
 use Rattle.session_tables.specs.declared.tables.TableChange.{TableChange}
 use Rattle.session_tables.specs.Steps.{change_all}
-use Rattle.session_flush.specs.Flush.{flush, give_up, write_objects}
+use Rattle.session_acts.specs.Flush.{flush, give_up, write_objects}
 use Rattle.session_acts.specs.Steps as acts
 use Rattle.session_acts.specs.Steps.{flush_now, flush_whole, orphan_fault}
 use Rattle.session_laws.proofs.Sound.Beginning.{entered_open}
 use Rattle.session_laws.proofs.Sound.Touches.{between_scopes}
-use Rattle.session_values.specs.Steps.{cell_kept, given_fault, made_unless, set_inside, set_judged, set_valid, valid_made, value_invalid}
+use Rattle.session_objects.specs.ValueSteps.{cell_kept, given_fault, made_unless, set_inside, set_judged, set_valid, valid_made, value_invalid}
 use Rattle.session_laws.proofs.Health.Acts.{IsLed, begun_handled, led_checked, led_then}
 use Rattle.session_laws.proofs.Whole.Keeping as keeping
 use Rattle.session_laws.proofs.Whole.Keeping.{Holds}

@@ -11,13 +11,13 @@ use Rattle.expr_types.specs.declared.select.Bulk.{Bulk}
 use Rattle.expr_types.specs.declared.select.Select.{Select}
 use Rattle.flush_plan.specs.Planning.{plan}
 use Rattle.keeper_core.specs.Calls as call
-use Rattle.legality_laws.specs.Legality.{Keeps}
-use Rattle.legality_laws.proofs.EachJoin.{keeps_each, keeps_give, keeps_refuse, keeps_then}
+use Rattle.table_laws.specs.Legality.{Keeps}
+use Rattle.table_laws.proofs.EachJoin.{keeps_each, keeps_give, keeps_refuse, keeps_then}
 use Rattle.object_rows.specs.declared.prepared.Prepared.{Prepared}
-use Rattle.plan_run.specs.Run.{send_plan}
-use Rattle.programs.specs.Programs.{Event, Run, ◌>>=◌, ask, each, give}
-use Rattle.programs.specs.Beside.{by_own, changes, on_own, on_store}
-use Rattle.programs.specs.Store.{Store}
+use Rattle.session_statements.specs.Run.{send_plan}
+use Rattle.keeper_core.specs.Programs.{Event, Run, ◌>>=◌, ask, each, give}
+use Rattle.keeper_core.specs.Beside.{by_own, changes, on_own, on_store}
+use Rattle.keeper_core.specs.Store.{Store}
 use Rattle.row_project.specs.Changes.{project}
 use Rattle.sql_semantics.specs.Applied.{table_of}
 use Rattle.session_scopes.specs.Scoping.{session_closed, session_released}
@@ -32,7 +32,7 @@ use Rattle.session_statements.specs.Rewriting.{session_reread}
 use Rattle.session_statements.specs.Steps as statements
 use Rattle.session_tables.specs.declared.tables.TableChange.{TableChange}
 use Rattle.session_tables.specs.Steps.{change_all, change_in_store, change_one, order_for, transaction_fault}
-use Rattle.session_flush.specs.Flush.{prepare, prepared_of, session_flushed, write_objects, write_prepared, write_rows, write_warned}
+use Rattle.session_acts.specs.Flush.{prepare, prepared_of, session_flushed, write_objects, write_prepared, write_rows, write_warned}
 use Rattle.session_laws.proofs.Flushes.Kept.{IsKeptByWrites, plan_keeps}
 
 -- the session of a world has a property

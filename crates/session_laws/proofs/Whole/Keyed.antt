@@ -41,7 +41,7 @@ use Rattle.session_scopes.proofs.SessionLemmas.{around_scopes}
 use Rattle.session_objects.specs.Taking.{added_then, changed_values, coming_objects, object_taken, session_added, session_joined, session_taken, taken_under}
 use Rattle.session_objects.proofs.TakingLemmas.{changed_fit}
 use Rattle.session_statements.specs.Rewriting.{expired_if, graph_reread, is_reread, reread_of, session_reread}
-use Rattle.session_flush.specs.Flush.{session_flushed}
+use Rattle.session_acts.specs.Flush.{session_flushed}
 use Rattle.session_laws.proofs.Sound.Touches.{between_scopes}
 use Rattle.session_laws.proofs.Calls.Making.{made}
 use Rattle.session_laws.proofs.Health.Fits.{classes_written, flushed_fit}

@@ -29,7 +29,7 @@ use Rattle.session_links.proofs.PutLemmas.{fits_there, placed_later, relinked_mo
 use Rattle.session_laws.specs.LinkCalls.{IsLinkCall}
 use Rattle.session_laws.proofs.LinkCalls.Fitting.{change_fits}
 use Rattle.session_laws.proofs.LinkCalls.Placing.{change_placed}
-use Rattle.flush_laws.proofs.OwnRows.Standing.{hierarchies}
+use Rattle.session_laws.proofs.OwnRows.Standing.{hierarchies}
 use Rattle.session_laws.specs.Whole.{IsKeyed}
 use Rattle.session_laws.proofs.Whole.Keyed.{all_joined, its_fit, object_keyed, taken_class}
 use Rattle.session_laws.proofs.Whole.Refit.{FitsIn}

@@ -12,13 +12,13 @@ use Rattle.class_mapping.specs.Mapped.{IsAttribute, Mapped}
 use Rattle.expr_types.specs.declared.select.Bulk.{Bulk}
 use Rattle.expr_types.specs.declared.select.Select.{Select}
 use Rattle.keeper_core.specs.Calls as call
-use Rattle.legality_laws.specs.Legality.{Keeps}
-use Rattle.legality_laws.proofs.EachJoin.{keeps_give, keeps_guarded, keeps_refuse}
+use Rattle.table_laws.specs.Legality.{Keeps}
+use Rattle.table_laws.proofs.EachJoin.{keeps_give, keeps_guarded, keeps_refuse}
 use Rattle.object_arena.specs.Graph.{Graph, object_at, value_fault}
 use Rattle.object_rows.specs.declared.prepared.Prepared.{Prepared}
-use Rattle.programs.specs.Programs.{Event, Run, ◌>>=◌, give}
-use Rattle.programs.specs.Beside.{by_own, changes, on_own, on_store}
-use Rattle.programs.specs.Store.{Store}
+use Rattle.keeper_core.specs.Programs.{Event, Run, ◌>>=◌, give}
+use Rattle.keeper_core.specs.Beside.{by_own, changes, on_own, on_store}
+use Rattle.keeper_core.specs.Store.{Store}
 use Rattle.relations.specs.declared.calls.LinkCall.{LinkCall}
 use Rattle.sql_semantics.specs.Applied.{table_of}
 use Rattle.session_scopes.specs.Changes.{cell_read, deletion_marked, value_put}
@@ -38,11 +38,11 @@ use Rattle.session_statements.specs.Rewriting.{session_reread}
 use Rattle.session_statements.specs.Steps as statements
 use Rattle.session_tables.specs.declared.tables.TableChange.{TableChange}
 use Rattle.session_tables.specs.Steps.{change_all}
-use Rattle.session_flush.specs.Flush.{flush, give_up, session_flushed, write_objects}
+use Rattle.session_acts.specs.Flush.{flush, give_up, session_flushed, write_objects}
 use Rattle.session_acts.specs.Steps as acts
 use Rattle.session_acts.specs.Steps.{flush_now, flush_whole, orphan_fault}
 use Rattle.session_laws.proofs.Sound.Beginning.{entered_graph, entered_mapping}
-use Rattle.session_values.specs.Steps.{cell_kept, set_inside, set_judged, set_valid, value_invalid}
+use Rattle.session_objects.specs.ValueSteps.{cell_kept, set_inside, set_judged, set_valid, value_invalid}
 use Rattle.session_laws.proofs.Health.Acts.{led_checked, led_then}
 use Rattle.session_laws.proofs.Whole.Keeping as keeping
 use Rattle.session_laws.proofs.Whole.Keeping.{Holds}

@@ -13,7 +13,7 @@ use Rattle.object_arena.specs.Every.{classes_of}
 use Rattle.object_arena.specs.Graph.{Graph, cell_in, cell_put, object_at, with_object, with_value}
 use Rattle.object_arena.proofs.ClassLemmas.{classes_set}
 use Rattle.graph_flushed.specs.Flushed.{graph_flushed, written_with}
-use Rattle.programs.specs.Beside.{on_own}
+use Rattle.keeper_core.specs.Beside.{on_own}
 use Rattle.session_parts.specs.Ends.{object_committed, object_left, object_unmarked}
 use Rattle.session_scopes.specs.Changes.{changed_unless, delete_fault, deletion_marked, value_put}
 use Rattle.session_scopes.specs.Scoping.{session_restored}
@@ -22,7 +22,7 @@ use Rattle.session_calls.specs.Parts.{World}
 use Rattle.session_calls.proofs.Joining.{same_itself, same_more}
 use Rattle.session_objects.specs.Taking.{coming_objects, session_added, session_joined}
 use Rattle.session_statements.specs.Rewriting.{graph_reread, is_reread, reread_of}
-use Rattle.session_values.specs.Steps.{given_fault, made_unless, valid_made}
+use Rattle.session_objects.specs.ValueSteps.{given_fault, made_unless, valid_made}
 use Rattle.session_laws.proofs.Health.Fits.{classes_written}
 use Rattle.session_laws.specs.Whole.{IsKeyed}
 use Rattle.session_laws.proofs.Whole.Keyed.{added_keyed, begun_keyed, closed_keyed, committed_keyed, flushed_keyed, if_class, made_keyed, mark_keyed, nested_keyed, released_keyed, reread_keyed, restored_keyed, value_keyed}

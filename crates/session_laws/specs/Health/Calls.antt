@@ -10,7 +10,7 @@ use Rattle.expr_types.specs.declared.select.Bulk.{Bulk}
 use Rattle.expr_types.specs.declared.select.Select.{Select}
 use Rattle.object_arena.specs.Graph.{IsObject}
 use Rattle.object_arena.specs.Identity.{IsOne}
-use Rattle.programs.specs.Beside.{on_own}
+use Rattle.keeper_core.specs.Beside.{on_own}
 use Rattle.relations.specs.declared.calls.LinkCall.{LinkCall}
 use Rattle.relations.specs.Calls.{end_of}
 use Rattle.relations.specs.Keys.{IsEnd}
@@ -21,7 +21,7 @@ use Rattle.session_objects.specs.Steps.{add}
 use Rattle.session_links.specs.Steps.{change_link, read_related}
 use Rattle.session_tables.specs.Steps.{change_all}
 use Rattle.session_tables.specs.declared.tables.TableChange.{TableChange}
-use Rattle.session_values.specs.Steps.{set_valid, valid_made}
+use Rattle.session_objects.specs.ValueSteps.{set_valid, valid_made}
 use Rattle.session_laws.specs.Health.Health.{IsHealthy, IsWhole}
 
 -- what is asked of a session: objects are made with values, come in, get values, are read and are to be deleted; their links change and

@@ -4,13 +4,13 @@ use Rattle.std.specs.Prelude.{◌≡◌, ℕ, ◌<◌, Bool, true, ◌&&◌, Lis
 use Rattle.base_core.specs.declared.ids.AttrNo.{AttrNo}
 use Rattle.base_core.specs.declared.value.Value.{Value}
 use Rattle.class_mapping.specs.Mapped.{Mapped, is_key_attribute}
-use Rattle.legality_laws.specs.Legality.{IsAscendingStore}
+use Rattle.table_laws.specs.Legality.{IsAscendingStore}
 use Rattle.object_arena.specs.declared.object.Object.{Object}
 use Rattle.object_arena.specs.declared.object.State.{State}
 use Rattle.object_arena.specs.Fit.{IsFit}
 use Rattle.object_arena.specs.Graph.{Graph, cell_in, has_identity, no_object}
-use Rattle.flush_laws.specs.Graphs.{IsWellMapped}
-use Rattle.programs.specs.Programs.{Run}
+use Rattle.session_laws.specs.Graphs.{IsWellMapped}
+use Rattle.keeper_core.specs.Programs.{Run}
 use Rattle.savepoints.specs.declared.scope.Scope.{Scope}
 use Rattle.savepoints.specs.declared.scope.Standing.{Standing}
 use Rattle.savepoints.specs.Scopes.{standing_at, standing_of}

@@ -1,6 +1,6 @@
 use Rattle.std.proofs.Common.{◌≡◌, [], drop}
 use Rattle.sql_semantics.specs.Taken as spec
-use Rattle.lent_tables.specs.Lent.{seen}
+use Rattle.table_rows.specs.Lent.{seen}
 use Rattle.bulk_rows.proofs.cells.cells.Given as goal
 
 abbrev pub invariant-loop-cell : goal.invariant-loop-cell

@@ -1,5 +1,5 @@
-use Rattle.lent_tables.specs.Lent.{seen}
-use Rattle.lent_tables.specs.Walks.{entries_left}
+use Rattle.table_rows.specs.Lent.{seen}
+use Rattle.table_rows.specs.Walks.{entries_left}
 use Rattle.bulk_rows.proofs.Updates.{update_next}
 use Rattle.bulk_rows.proofs.taken.updated_rows.Goals as goal
 

@@ -1,6 +1,6 @@
 use Rattle.std.proofs.Common.{◌≡◌, [], length}
-use Rattle.lent_tables.specs.Lent.{seen}
-use Rattle.lent_tables.specs.Walks.{entries_left}
+use Rattle.table_rows.specs.Lent.{seen}
+use Rattle.table_rows.specs.Walks.{entries_left}
 use Rattle.sql_semantics.specs.Taken as spec
 use Rattle.bulk_rows.proofs.taken.updated_rows.Given as goal
 

@@ -3,7 +3,7 @@ use Rattle.expr_types.specs.declared.expr.Expr.{size-Expr}
 use Rattle.sql_semantics.specs.Eval as spec
 use Rattle.sql_semantics.specs.Eval.{meaning_of}
 use Rattle.expr_eval.specs.Place.{place_of}
-use Rattle.lent_tables.specs.Walks.{rows_left}
+use Rattle.table_rows.specs.Walks.{rows_left}
 use Rattle.expr_eval.proofs.evaluate.+eval.Given as goal
 
 abbrev pub invariant-several-loop-part : goal.invariant-several-loop-part

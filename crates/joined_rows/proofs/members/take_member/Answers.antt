@@ -1,15 +1,15 @@
 use Rattle.std.proofs.Common.{◌≡◌, ◌∙◌, Bool, true, ◌&&◌, List, refl, sym, subst}
 use Rattle.std.proofs.lemmas.Bool.{and_parts}
 use Rattle.base_core.specs.declared.value.Value.{Value}
-use Rattle.programs.proofs.Lifting.{no_room}
-use Rattle.programs.proofs.Sequence.{passed_on}
+use Rattle.keeper_core.proofs.Lifting.{no_room}
+use Rattle.keeper_core.proofs.Sequence.{passed_on}
 use Rattle.load_filling.proofs.LoadedLemmas.{grows_same}
 use Rattle.load_filling.specs.Rows.{row_key}
 use Rattle.load_rows.specs.Loading.{loading}
 use Rattle.load_rows.specs.Reading.{IsRowOf}
 use Rattle.load_calls.proofs.ReadLemmas.{passed_memory, passed_refusal}
-use Rattle.load_collections.specs.Refusals.{CanRefuseRow}
-use Rattle.load_collections.proofs.RefusalLemmas.{row_refuses}
+use Rattle.load_calls.specs.Refusals.{CanRefuseRow}
+use Rattle.load_calls.proofs.RefusalLemmas.{row_refuses}
 use Rattle.joined_rows.specs.Parts.{values_from}
 use Rattle.joined_rows.specs.Taking.{are_given, further_keys}
 use Rattle.joined_rows.proofs.MemberLemmas.{is_member, member_refused, member_taken, none_taken}

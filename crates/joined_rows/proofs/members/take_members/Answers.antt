@@ -1,11 +1,11 @@
 use Rattle.std.proofs.Common.{◌≡◌, ap, length, List, Option, refl, rules}
 use Rattle.base_core.specs.declared.ids.ObjId.{ObjId}
-use Rattle.programs.proofs.Sequence.{each_end, each_err, each_turn, passed_on}
+use Rattle.keeper_core.proofs.Sequence.{each_end, each_err, each_turn, passed_on}
 use Rattle.load_filling.proofs.LoadedLemmas.{grows_same}
 use Rattle.load_rows.specs.Loading.{loading}
 use Rattle.load_calls.proofs.ReadLemmas.{passed_refusal}
-use Rattle.load_collections.specs.Refusals.{CanRefuseRow}
-use Rattle.load_collections.proofs.RowsLemmas.{grows_then}
+use Rattle.load_calls.specs.Refusals.{CanRefuseRow}
+use Rattle.load_calls.proofs.RowsLemmas.{grows_then}
 use Rattle.joined_rows.specs.Taking.{take_next}
 use Rattle.joined_rows.proofs.MemberLemmas.{members_start, more_members, none_yet, one_longer}
 use Rattle.joined_rows.proofs.members.take_members.Goals as goal

@@ -1,7 +1,7 @@
-use Rattle.programs.proofs.Sequence.{passed_on}
+use Rattle.keeper_core.proofs.Sequence.{passed_on}
 use Rattle.load_calls.proofs.ReadLemmas.{passed_refusal}
-use Rattle.load_collections.specs.Refusals.{CanRefuseRow}
-use Rattle.load_collections.proofs.RefusalLemmas.{lost_alone_refuses}
+use Rattle.load_calls.specs.Refusals.{CanRefuseRow}
+use Rattle.load_calls.proofs.RefusalLemmas.{lost_alone_refuses}
 use Rattle.joined_rows.proofs.MemberLemmas.{one_more, push_refused, push_taken}
 use Rattle.joined_rows.proofs.members.take_next.Goals as goal
 

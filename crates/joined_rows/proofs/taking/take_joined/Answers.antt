@@ -1,10 +1,10 @@
 use Rattle.std.proofs.Common.{refl, rules}
-use Rattle.programs.proofs.Sequence.{each_end, each_err, each_turn, passed_on}
+use Rattle.keeper_core.proofs.Sequence.{each_end, each_err, each_turn, passed_on}
 use Rattle.load_filling.proofs.LoadedLemmas.{grows_same}
 use Rattle.load_rows.specs.Loading.{loading}
 use Rattle.load_calls.proofs.ReadLemmas.{passed_refusal}
-use Rattle.load_collections.specs.Refusals.{CanRefuseRow}
-use Rattle.load_collections.proofs.RowsLemmas.{grows_then}
+use Rattle.load_calls.specs.Refusals.{CanRefuseRow}
+use Rattle.load_calls.proofs.RowsLemmas.{grows_then}
 use Rattle.joined_rows.specs.Taking.{take_one}
 use Rattle.joined_rows.proofs.TakenSteps.{none_taken_yet, taken_start}
 use Rattle.joined_rows.proofs.taking.take_joined.Goals as goal

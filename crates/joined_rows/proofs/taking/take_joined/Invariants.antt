@@ -1,9 +1,9 @@
 use Rattle.std.proofs.Common.{drop}
 use Rattle.std.specs.List.{All}
 use Rattle.object_arena.specs.Fit.{IsFit}
-use Rattle.programs.specs.Alone.{alone}
-use Rattle.programs.specs.Moment.{Reaches}
-use Rattle.programs.specs.Programs.{each}
+use Rattle.keeper_core.specs.Alone.{alone}
+use Rattle.keeper_core.specs.Moment.{Reaches}
+use Rattle.keeper_core.specs.Programs.{each}
 use Rattle.load_filling.specs.Growing.{Grows}
 use Rattle.load_rows.specs.Loading.{loading}
 use Rattle.joined_rows.specs.Taking.{IsTaken, take_joined, take_one}

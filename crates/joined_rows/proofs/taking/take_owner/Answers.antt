@@ -1,11 +1,11 @@
 use Rattle.std.proofs.Common.{subst, sym}
-use Rattle.programs.proofs.Sequence.{passed_on}
+use Rattle.keeper_core.proofs.Sequence.{passed_on}
 use Rattle.load_rows.specs.Loading.{loading}
 use Rattle.load_rows.specs.Reading.{IsRowOf}
 use Rattle.load_calls.proofs.ReadLemmas.{passed_refusal}
-use Rattle.load_collections.specs.Refusals.{CanRefuseRow}
-use Rattle.load_collections.proofs.RefusalLemmas.{row_refuses}
-use Rattle.load_collections.proofs.RowsLemmas.{grows_then}
+use Rattle.load_calls.specs.Refusals.{CanRefuseRow}
+use Rattle.load_calls.proofs.RefusalLemmas.{row_refuses}
+use Rattle.load_calls.proofs.RowsLemmas.{grows_then}
 use Rattle.joined_rows.proofs.TakenSteps.{is_taken, members_refused, owner_refused, owner_taken}
 use Rattle.joined_rows.proofs.taking.take_owner.Goals as goal
 

@@ -1,5 +1,5 @@
 use Rattle.std.proofs.Common.{rules}
-use Rattle.load_selectin.specs.Selectin.{IsOwnerOf}
+use Rattle.load_queries.specs.Selectin.{IsOwnerOf}
 use Rattle.load_acts.proofs.OwnerLemmas.{owners_more}
 use Rattle.load_acts.proofs.owners.are_owners.Goals as goal
 

@@ -1,6 +1,6 @@
 use Rattle.std.proofs.Common.{take}
 use Rattle.std.specs.List.{All}
-use Rattle.load_selectin.specs.Selectin.{IsOwnerOf}
+use Rattle.load_queries.specs.Selectin.{IsOwnerOf}
 use Rattle.load_acts.proofs.owners.are_owners.Given as goal
 
 abbrev pub invariant-loop-object : goal.invariant-loop-object

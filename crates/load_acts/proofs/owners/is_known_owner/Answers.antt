@@ -1,4 +1,4 @@
-use Rattle.load_selectin.proofs.OwnerLemmas.{owner_tested}
+use Rattle.load_queries.proofs.OwnerLemmas.{owner_tested}
 use Rattle.load_acts.proofs.owners.is_known_owner.Goals as goal
 
 pub returns : goal.returns

@@ -2,13 +2,13 @@ use Rattle.std.proofs.Common.{◌≡◌, List, true, refl, subst, sym}
 use Rattle.std.specs.List.{All, AllByRecursion}
 use Rattle.class_mapping.specs.Mapped.{root_of}
 use Rattle.object_arena.specs.Fit.{is_of_root}
-use Rattle.programs.proofs.Sequence.{passed_on}
+use Rattle.keeper_core.proofs.Sequence.{passed_on}
 use Rattle.load_filling.proofs.LoadedLemmas.{grows_same}
 use Rattle.load_rows.proofs.TakenLemmas.{grows_filled}
-use Rattle.load_laws.specs.Pairs.{IsMemberRow}
+use Rattle.collection_selects.specs.Pairs.{IsMemberRow}
 use Rattle.load_calls.proofs.ReadLemmas.{passed_refusal, ready_stays}
-use Rattle.load_collections.specs.Refusals.{CanRefuseRows}
-use Rattle.load_collections.proofs.RefusalLemmas.{lost_alone_refuses, of_row}
+use Rattle.load_calls.specs.Refusals.{CanRefuseRows}
+use Rattle.load_calls.proofs.RefusalLemmas.{lost_alone_refuses, of_row}
 use Rattle.load_batches.specs.Batches.{objects_in}
 use Rattle.load_batches.specs.declared.members.Member.{Member}
 use Rattle.load_batches.proofs.BatchSteps.{batch_filled, batch_refused, no_batch, none_there, row_refused, some_there}

@@ -1,10 +1,10 @@
 use Rattle.std.proofs.Common.{refl, subst, sym, List}
 use Rattle.std.specs.List.{All}
-use Rattle.programs.proofs.Lifting.{no_room}
-use Rattle.programs.proofs.Sequence.{passed_on}
+use Rattle.keeper_core.proofs.Lifting.{no_room}
+use Rattle.keeper_core.proofs.Sequence.{passed_on}
 use Rattle.load_filling.proofs.LoadedLemmas.{grows_same}
 use Rattle.load_calls.proofs.ReadLemmas.{passed_memory, passed_stays}
-use Rattle.load_collections.specs.Refusals.{CanRefuseRows}
+use Rattle.load_calls.specs.Refusals.{CanRefuseRows}
 use Rattle.load_batches.specs.Batches.{IsOwned}
 use Rattle.load_batches.specs.declared.owners.Owner.{Owner}
 use Rattle.load_batches.proofs.BatchSteps.{members_loaded}

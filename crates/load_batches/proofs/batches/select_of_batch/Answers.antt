@@ -1,5 +1,5 @@
 use Rattle.load_batches.proofs.BatchSteps.{batch_plain, named_select}
-use Rattle.load_collections.proofs.CollectionLemmas.{has_told}
+use Rattle.load_calls.proofs.CollectionLemmas.{has_told}
 use Rattle.load_batches.proofs.batches.select_of_batch.Goals as goal
 
 pub returns-clause-select : goal.returns-clause-select

@@ -1,9 +1,9 @@
 use Rattle.std.proofs.Common.{◌≡◌, drop}
 use Rattle.object_arena.specs.Every.{classes_of}
 use Rattle.object_arena.specs.Fit.{IsFit}
-use Rattle.programs.specs.Alone.{alone}
-use Rattle.programs.specs.Moment.{Reaches}
-use Rattle.programs.specs.Programs.{each}
+use Rattle.keeper_core.specs.Alone.{alone}
+use Rattle.keeper_core.specs.Moment.{Reaches}
+use Rattle.keeper_core.specs.Programs.{each}
 use Rattle.load_rows.specs.Loading.{loading}
 use Rattle.load_batches.specs.Batches.{fill_owner, fill_owners}
 use Rattle.load_batches.proofs.filling.fill_owners.Given as goal

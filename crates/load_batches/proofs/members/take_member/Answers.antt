@@ -1,16 +1,16 @@
 use Rattle.std.proofs.Common.{◌∙◌, ap, map, refl, subst, sym, List}
 use Rattle.base_core.specs.declared.ids.AttrNo.{AttrNo}
 use Rattle.class_mapping.specs.Mapped.{root_of}
-use Rattle.programs.proofs.Lifting.{no_room}
-use Rattle.programs.proofs.Sequence.{passed_on}
+use Rattle.keeper_core.proofs.Lifting.{no_room}
+use Rattle.keeper_core.proofs.Sequence.{passed_on}
 use Rattle.load_filling.proofs.LoadedLemmas.{grows_same}
 use Rattle.load_filling.specs.Rows.{value_in}
 use Rattle.load_rows.specs.Loading.{loading}
 use Rattle.load_rows.specs.Reading.{IsRowOf}
 use Rattle.load_calls.proofs.ReadLemmas.{passed_memory, passed_refusal}
-use Rattle.load_collections.specs.Refusals.{CanRefuseRow}
-use Rattle.load_collections.proofs.RefusalLemmas.{lost_alone_refuses, row_refuses}
-use Rattle.load_collections.proofs.RowsLemmas.{more_of}
+use Rattle.load_calls.specs.Refusals.{CanRefuseRow}
+use Rattle.load_calls.proofs.RefusalLemmas.{lost_alone_refuses, row_refuses}
+use Rattle.load_calls.proofs.RowsLemmas.{more_of}
 use Rattle.load_batches.specs.Batches.{objects_in}
 use Rattle.load_batches.proofs.MemberSteps.{member_refused, member_taken, objects_pushed, values_behind}
 use Rattle.load_batches.proofs.members.take_member.Goals as goal

@@ -1,12 +1,12 @@
 use Rattle.std.proofs.Common.{ap, refl, rules}
-use Rattle.programs.proofs.Lifting.{no_room}
-use Rattle.programs.proofs.Sequence.{each_end, each_err, each_turn, passed_on}
+use Rattle.keeper_core.proofs.Lifting.{no_room}
+use Rattle.keeper_core.proofs.Sequence.{each_end, each_err, each_turn, passed_on}
 use Rattle.class_mapping.specs.Mapped.{root_of}
 use Rattle.load_filling.proofs.LoadedLemmas.{grows_same}
 use Rattle.load_rows.specs.Loading.{loading}
 use Rattle.load_calls.proofs.ReadLemmas.{passed_memory, passed_refusal}
-use Rattle.load_collections.specs.Refusals.{CanRefuseRow}
-use Rattle.load_collections.proofs.RowsLemmas.{grows_then, none_of}
+use Rattle.load_calls.specs.Refusals.{CanRefuseRow}
+use Rattle.load_calls.proofs.RowsLemmas.{grows_then, none_of}
 use Rattle.load_batches.specs.Batches.{objects_in, take_member}
 use Rattle.load_batches.proofs.MemberSteps.{members_start}
 use Rattle.load_batches.proofs.members.take_members.Goals as goal

@@ -2,9 +2,9 @@ use Rattle.std.proofs.Common.{◌≡◌, true, drop}
 use Rattle.std.specs.List.{All}
 use Rattle.class_mapping.specs.Mapped.{root_of}
 use Rattle.object_arena.specs.Fit.{IsFit, is_of_root}
-use Rattle.programs.specs.Alone.{alone}
-use Rattle.programs.specs.Moment.{Reaches}
-use Rattle.programs.specs.Programs.{each}
+use Rattle.keeper_core.specs.Alone.{alone}
+use Rattle.keeper_core.specs.Moment.{Reaches}
+use Rattle.keeper_core.specs.Programs.{each}
 use Rattle.load_filling.specs.Growing.{Grows}
 use Rattle.load_rows.specs.Loading.{loading}
 use Rattle.load_batches.specs.Batches.{objects_in, take_member, take_members}

@@ -1,7 +1,7 @@
 use Rattle.std.proofs.Common.{subst, IfOk}
 use Rattle.schema_core.specs.Catalog.{Catalog}
 use Rattle.sql_semantics.specs.Shapes.{AreGiven, AreOfItems}
-use Rattle.programs.proofs.Lifting.{spoiled}
+use Rattle.keeper_core.proofs.Lifting.{spoiled}
 use Rattle.keeper_core.specs.Keeping.{HoldsLegalRows, HoldsRows, IsQuery}
 use Rattle.load_calls.proofs.ReadLemmas.{holds_rows, query_sent, read_done, stays_after}
 use Rattle.load_calls.proofs.reading.read.Goals as goal

@@ -2,8 +2,8 @@ use Rattle.std.proofs.Common.{◌≡◌, ◌∙◌, true, ap, sym, subst}
 use Rattle.class_types.specs.declared.mapped.Relation.{Relation}
 use Rattle.class_mapping.specs.Mapped.{root_of}
 use Rattle.object_arena.specs.Fit.{end_fits}
-use Rattle.programs.proofs.Lifting.{no_room}
-use Rattle.programs.proofs.Sequence.{passed_on}
+use Rattle.keeper_core.proofs.Lifting.{no_room}
+use Rattle.keeper_core.proofs.Sequence.{passed_on}
 use Rattle.load_rows.specs.Loading.{loading}
 use Rattle.load_ends.proofs.EndSteps.{owner_filled}
 use Rattle.load_ends.proofs.filling.fill_owner.Goals as goal

@@ -1,5 +1,5 @@
 use Rattle.std.proofs.Common.{◌≡◌, ◌∙◌, refl, rules}
-use Rattle.programs.proofs.Sequence.{each_end, each_err, each_turn, passed_on}
+use Rattle.keeper_core.proofs.Sequence.{each_end, each_err, each_turn, passed_on}
 use Rattle.load_rows.specs.Loading.{loading}
 use Rattle.load_targets.proofs.TargetLemmas.{same_grow}
 use Rattle.load_ends.specs.Ends.{fill_owner}

@@ -1,9 +1,9 @@
 use Rattle.std.proofs.Common.{refl}
-use Rattle.programs.proofs.Lifting.{no_room}
-use Rattle.programs.proofs.Sequence.{passed_on}
+use Rattle.keeper_core.proofs.Lifting.{no_room}
+use Rattle.keeper_core.proofs.Sequence.{passed_on}
 use Rattle.load_filling.proofs.LoadedLemmas.{grows_same}
 use Rattle.load_calls.proofs.ReadLemmas.{passed_memory, passed_stays}
-use Rattle.load_collections.specs.Refusals.{CanRefuseRows}
+use Rattle.load_calls.specs.Refusals.{CanRefuseRows}
 use Rattle.load_ends.proofs.ReadSteps.{batches_read}
 use Rattle.load_ends.proofs.reading.load_all.Goals as goal
 

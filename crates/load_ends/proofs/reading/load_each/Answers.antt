@@ -2,14 +2,14 @@ use Rattle.std.proofs.Common.{◌≡◌, refl, rules, subst, sym, List}
 use Rattle.std.specs.List.{All}
 use Rattle.std.proofs.lemmas.List.Elements.{All-drop, All-take}
 use Rattle.base_core.specs.declared.value.Value.{Value}
-use Rattle.programs.proofs.Sequence.{each_end, each_err, each_turn, passed_on}
+use Rattle.keeper_core.proofs.Sequence.{each_end, each_err, each_turn, passed_on}
 use Rattle.load_filling.proofs.LoadedLemmas.{grows_same}
-use Rattle.load_collections.proofs.RowsLemmas.{grows_then}
+use Rattle.load_calls.proofs.RowsLemmas.{grows_then}
 use Rattle.load_rows.specs.Loading.{loading}
 use Rattle.load_batches.specs.Batches.{batch_size}
 use Rattle.load_ends.specs.Ends.{FitsClass, load_from}
 use Rattle.load_ends.proofs.ReadSteps.{batch_run, batches_start}
-use Rattle.load_collections.specs.Refusals.{CanRefuseRows}
+use Rattle.load_calls.specs.Refusals.{CanRefuseRows}
 use Rattle.load_calls.proofs.ReadLemmas.{passed_refusal}
 use Rattle.load_ends.proofs.reading.load_each.Goals as goal
 

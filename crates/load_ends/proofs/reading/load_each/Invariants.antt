@@ -1,8 +1,8 @@
 use Rattle.std.proofs.Common.{drop}
 use Rattle.object_arena.specs.Fit.{IsFit}
-use Rattle.programs.specs.Beside.{moment_beside}
-use Rattle.programs.specs.Moment.{Reaches}
-use Rattle.programs.specs.Programs.{each}
+use Rattle.keeper_core.specs.Beside.{moment_beside}
+use Rattle.keeper_core.specs.Moment.{Reaches}
+use Rattle.keeper_core.specs.Programs.{each}
 use Rattle.load_filling.specs.Growing.{Grows}
 use Rattle.load_calls.specs.Reading.{IsReady}
 use Rattle.load_rows.specs.Loading.{loading}

@@ -1,13 +1,13 @@
 use Rattle.std.proofs.Common.{refl, subst, sym, List}
 use Rattle.std.specs.List.{All}
 use Rattle.base_core.specs.declared.value.Value.{Value}
-use Rattle.programs.proofs.Lifting.{no_room}
-use Rattle.programs.proofs.Sequence.{passed_on}
+use Rattle.keeper_core.proofs.Lifting.{no_room}
+use Rattle.keeper_core.proofs.Sequence.{passed_on}
 use Rattle.load_filling.proofs.LoadedLemmas.{grows_same}
 use Rattle.load_rows.proofs.TakenLemmas.{grows_filled}
 use Rattle.load_calls.proofs.ReadLemmas.{passed_memory, passed_refusal, passed_stays, ready_stays}
-use Rattle.load_collections.specs.Refusals.{CanRefuseRows}
-use Rattle.load_collections.proofs.RefusalLemmas.{lost_alone_refuses}
+use Rattle.load_calls.specs.Refusals.{CanRefuseRows}
+use Rattle.load_calls.proofs.RefusalLemmas.{lost_alone_refuses}
 use Rattle.load_ends.specs.Ends.{FitsClass}
 use Rattle.load_ends.proofs.EndSteps.{children_still}
 use Rattle.load_ends.proofs.ReadSteps.{links_filled, links_refused}

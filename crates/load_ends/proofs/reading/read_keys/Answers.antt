@@ -1,8 +1,8 @@
-use Rattle.programs.proofs.Lifting.{no_room}
-use Rattle.programs.proofs.Sequence.{passed_on}
+use Rattle.keeper_core.proofs.Lifting.{no_room}
+use Rattle.keeper_core.proofs.Sequence.{passed_on}
 use Rattle.load_calls.proofs.ReadLemmas.{passed_memory, passed_stays}
-use Rattle.load_collections.specs.Refusals.{CanRefuseRows}
-use Rattle.load_collections.proofs.RefusalLemmas.{refused_select}
+use Rattle.load_calls.specs.Refusals.{CanRefuseRows}
+use Rattle.load_calls.proofs.RefusalLemmas.{refused_select}
 use Rattle.load_ends.proofs.ReadSteps.{keys_read, keys_rows}
 use Rattle.load_ends.proofs.reading.read_keys.Goals as goal
 

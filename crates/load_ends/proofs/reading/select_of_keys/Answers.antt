@@ -1,4 +1,4 @@
-use Rattle.load_collections.proofs.CollectionLemmas.{has_told}
+use Rattle.load_calls.proofs.CollectionLemmas.{has_told}
 use Rattle.load_ends.proofs.ReadSteps.{keys_plain}
 use Rattle.load_ends.proofs.reading.select_of_keys.Goals as goal
 

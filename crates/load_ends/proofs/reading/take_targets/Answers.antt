@@ -1,7 +1,7 @@
-use Rattle.programs.proofs.Sequence.{passed_on}
+use Rattle.keeper_core.proofs.Sequence.{passed_on}
 use Rattle.load_rows.specs.Loading.{loading}
 use Rattle.load_ends.proofs.ReadSteps.{targets_refused, targets_taken}
-use Rattle.load_collections.specs.Refusals.{CanRefuseRow}
+use Rattle.load_calls.specs.Refusals.{CanRefuseRow}
 use Rattle.load_calls.proofs.ReadLemmas.{passed_refusal}
 use Rattle.load_ends.proofs.reading.take_targets.Goals as goal
 

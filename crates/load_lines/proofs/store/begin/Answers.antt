@@ -1,6 +1,6 @@
 use Rattle.keeper_core.specs.Calls as call
-use Rattle.legality_laws.specs.Legality.{AreSound}
-use Rattle.legality_laws.proofs.EachCall.{keeps_begin}
+use Rattle.table_laws.specs.Legality.{AreSound}
+use Rattle.table_laws.proofs.EachCall.{keeps_begin}
 use Rattle.load_lines.proofs.OpenLemmas.{called_open}
 use Rattle.load_lines.proofs.store.begin.Goals as goal
 

@@ -1,7 +1,7 @@
 use Rattle.std.proofs.Common.{Bool, OnOk, Result, subst}
 use Rattle.base_core.specs.declared.refusal.Refusal.{Refusal}
 use Rattle.keeper_core.specs.Calls as call
-use Rattle.legality_laws.proofs.EachCall.{create_legal}
+use Rattle.table_laws.proofs.EachCall.{create_legal}
 use Rattle.load_lines.specs.Opened.{IsOpen}
 use Rattle.load_lines.proofs.OpenLemmas.{called_open}
 use Rattle.load_lines.proofs.store.create.Goals as goal

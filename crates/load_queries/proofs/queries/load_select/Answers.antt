@@ -1,12 +1,12 @@
 use Rattle.std.proofs.Common.{refl, subst, sym}
 use Rattle.std.specs.List.{AllByRecursion}
-use Rattle.programs.proofs.Sequence.{passed_on}
+use Rattle.keeper_core.proofs.Sequence.{passed_on}
 use Rattle.load_filling.proofs.LoadedLemmas.{grows_same}
 use Rattle.load_rows.specs.Reading.{IsRowOf}
 use Rattle.load_calls.proofs.ReadLemmas.{passed_refusal, ready_stays}
-use Rattle.load_collections.proofs.RefusalLemmas.{refused_rows}
+use Rattle.load_calls.proofs.RefusalLemmas.{refused_rows}
 use Rattle.load_queries.proofs.QuerySteps.{query_loaded, query_refused}
-use Rattle.load_collections.specs.Refusals.{CanRefuseRows}
+use Rattle.load_calls.specs.Refusals.{CanRefuseRows}
 use Rattle.load_queries.proofs.queries.load_select.Goals as goal
 
 pub returns-in_err-rows-clause-step : goal.returns-in_err-rows-clause-step

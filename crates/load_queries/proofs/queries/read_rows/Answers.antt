@@ -1,4 +1,4 @@
-use Rattle.load_collections.proofs.RefusalLemmas.{refused_select}
+use Rattle.load_calls.proofs.RefusalLemmas.{refused_select}
 use Rattle.load_queries.proofs.QuerySteps.{query_rows}
 use Rattle.load_queries.proofs.queries.read_rows.Goals as goal
 

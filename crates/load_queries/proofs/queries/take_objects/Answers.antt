@@ -1,10 +1,10 @@
 use Rattle.std.proofs.Common.{◌≡◌, true}
 use Rattle.class_mapping.specs.Mapped.{root_of}
 use Rattle.object_arena.specs.Fit.{is_of_root}
-use Rattle.programs.proofs.Sequence.{passed_on}
+use Rattle.keeper_core.proofs.Sequence.{passed_on}
 use Rattle.load_rows.specs.Loading.{loading}
-use Rattle.load_collections.specs.Refusals.{CanRefuseRow}
-use Rattle.load_collections.proofs.RefusalLemmas.{lost_alone_refuses}
+use Rattle.load_calls.specs.Refusals.{CanRefuseRow}
+use Rattle.load_calls.proofs.RefusalLemmas.{lost_alone_refuses}
 use Rattle.load_queries.proofs.FirstSteps.{firsts_told}
 use Rattle.load_queries.proofs.QuerySteps.{objects_refused, objects_taken}
 use Rattle.load_calls.proofs.ReadLemmas.{passed_refusal}

@@ -1,10 +1,10 @@
 use Rattle.std.proofs.Common.{refl}
-use Rattle.programs.proofs.Sequence.{passed_on}
+use Rattle.keeper_core.proofs.Sequence.{passed_on}
 use Rattle.load_filling.proofs.LoadedLemmas.{grows_same}
 use Rattle.load_calls.proofs.ReadLemmas.{passed_refusal, ready_stays}
-use Rattle.load_collections.proofs.RefusalLemmas.{refused_rows}
+use Rattle.load_calls.proofs.RefusalLemmas.{refused_rows}
 use Rattle.load_targets.proofs.EndLemmas.{key_loaded, key_refused}
-use Rattle.load_collections.specs.Refusals.{CanRefuseRows}
+use Rattle.load_calls.specs.Refusals.{CanRefuseRows}
 use Rattle.load_targets.proofs.ends.load_key.Goals as goal
 
 pub returns-in_err-rows-clause-step : goal.returns-in_err-rows-clause-step

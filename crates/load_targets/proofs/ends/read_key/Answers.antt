@@ -1,15 +1,15 @@
 use Rattle.std.proofs.Common.{subst, List}
 use Rattle.base_core.specs.declared.value.Value.{Value}
 use Rattle.expr_types.specs.declared.select.Select.{Select}
-use Rattle.programs.proofs.Lifting.{no_room}
-use Rattle.programs.proofs.Sequence.{passed_on}
-use Rattle.programs.specs.Beside.{moment_beside}
-use Rattle.programs.specs.Moment.{Runs}
+use Rattle.keeper_core.proofs.Lifting.{no_room}
+use Rattle.keeper_core.proofs.Sequence.{passed_on}
+use Rattle.keeper_core.specs.Beside.{moment_beside}
+use Rattle.keeper_core.specs.Moment.{Runs}
 use Rattle.load_rows.specs.Loading.{loading}
 use Rattle.load_calls.specs.Reading.{read}
 use Rattle.load_calls.proofs.ReadLemmas.{passed_memory, passed_stays}
-use Rattle.load_collections.specs.Refusals.{CanRefuseRows}
-use Rattle.load_collections.proofs.RefusalLemmas.{refused_select}
+use Rattle.load_calls.specs.Refusals.{CanRefuseRows}
+use Rattle.load_calls.proofs.RefusalLemmas.{refused_select}
 use Rattle.load_targets.proofs.EndLemmas.{key_rows}
 use Rattle.load_targets.proofs.ends.read_key.Goals as goal
 

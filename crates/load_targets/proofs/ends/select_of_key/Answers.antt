@@ -1,4 +1,4 @@
-use Rattle.load_collections.proofs.CollectionLemmas.{has_told}
+use Rattle.load_calls.proofs.CollectionLemmas.{has_told}
 use Rattle.load_targets.proofs.EndLemmas.{key_plain}
 use Rattle.load_targets.proofs.ends.select_of_key.Goals as goal
 

@@ -2,13 +2,13 @@ use Rattle.std.proofs.Common.{◌∙◌, ap, sym, refl, List, Some}
 use Rattle.std.specs.Option.{option_copied}
 use Rattle.base_core.specs.declared.value.Value.{Value}
 use Rattle.class_mapping.specs.Mapped.{root_of}
-use Rattle.programs.proofs.Sequence.{passed_on}
+use Rattle.keeper_core.proofs.Sequence.{passed_on}
 use Rattle.load_filling.proofs.LoadedLemmas.{grows_same}
 use Rattle.load_rows.specs.Loading.{loading}
 use Rattle.load_calls.proofs.ReadLemmas.{passed_refusal}
-use Rattle.load_collections.specs.Refusals.{CanRefuseRow}
-use Rattle.load_collections.proofs.RefusalLemmas.{row_refuses}
-use Rattle.load_collections.proofs.RowsLemmas.{object_of}
+use Rattle.load_calls.specs.Refusals.{CanRefuseRow}
+use Rattle.load_calls.proofs.RefusalLemmas.{row_refuses}
+use Rattle.load_calls.proofs.RowsLemmas.{object_of}
 use Rattle.load_targets.proofs.EndLemmas.{first_refused, first_taken, none_first}
 use Rattle.load_targets.proofs.ends.take_first.Goals as goal
 

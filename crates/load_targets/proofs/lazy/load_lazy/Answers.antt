@@ -4,7 +4,7 @@ use Rattle.class_mapping.specs.Mapped.{relations_of}
 use Rattle.object_arena.specs.declared.object.Object.{Object}
 use Rattle.object_arena.specs.Fit.{relation_of}
 use Rattle.load_rows.specs.Loading.{loading}
-use Rattle.load_collections.proofs.RefusalLemmas.{refused_load}
+use Rattle.load_calls.proofs.RefusalLemmas.{refused_load}
 use Rattle.load_targets.proofs.TargetLemmas.{collection_chosen, end_chosen, refused_show}
 use Rattle.load_targets.proofs.lazy.load_lazy.Goals as goal
 

@@ -5,14 +5,14 @@ use Rattle.class_mapping.specs.Mapped.{relations_of, root_of}
 use Rattle.object_arena.specs.declared.object.Object.{Object}
 use Rattle.object_arena.specs.Fit.{end_fits, relation_of}
 use Rattle.object_arena.specs.Graph.{object_at}
-use Rattle.programs.proofs.Sequence.{passed_on}
+use Rattle.keeper_core.proofs.Sequence.{passed_on}
 use Rattle.load_rows.specs.Loading.{loading}
 use Rattle.load_calls.specs.Refreshing.{IsShownDeleted}
 use Rattle.load_calls.proofs.ReadLemmas.{passed_refusal, ready_stays}
-use Rattle.load_collections.specs.Refusals.{CanRefuseLoad}
-use Rattle.load_collections.proofs.RefusalLemmas.{lost_alone_refuses, of_refresh, of_rows}
-use Rattle.load_collections.proofs.CollectionLemmas.{class_there, owner_there, same_relation}
-use Rattle.load_collections.proofs.RowsLemmas.{grows_then}
+use Rattle.load_calls.specs.Refusals.{CanRefuseLoad}
+use Rattle.load_calls.proofs.RefusalLemmas.{lost_alone_refuses, of_refresh, of_rows}
+use Rattle.load_calls.proofs.CollectionLemmas.{class_there, owner_there, same_relation}
+use Rattle.load_calls.proofs.RowsLemmas.{grows_then}
 use Rattle.load_targets.proofs.TargetLemmas.{passed_show, refresh_refused, same_grow, target_loaded, target_refused}
 use Rattle.load_targets.proofs.targets.load_target.Goals as goal
 

@@ -1,6 +1,6 @@
 use Rattle.std.proofs.Common.{◌∙◌}
-use Rattle.programs.proofs.Lifting.{no_room}
-use Rattle.programs.proofs.Sequence.{passed_on}
+use Rattle.keeper_core.proofs.Lifting.{no_room}
+use Rattle.keeper_core.proofs.Sequence.{passed_on}
 use Rattle.load_rows.specs.Loading.{loading}
 use Rattle.load_calls.specs.Refreshing.{CanRefuse, IsShownDeleted}
 use Rattle.load_calls.proofs.ReadLemmas.{passed_memory}

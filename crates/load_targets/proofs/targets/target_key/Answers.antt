@@ -1,4 +1,4 @@
-use Rattle.load_collections.proofs.CollectionLemmas.{declared_told, owned_related}
+use Rattle.load_calls.proofs.CollectionLemmas.{declared_told, owned_related}
 use Rattle.load_targets.proofs.TargetLemmas.{key_is, key_told}
 use Rattle.load_targets.proofs.targets.target_key.Goals as goal
 

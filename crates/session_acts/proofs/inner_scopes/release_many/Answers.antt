@@ -1,7 +1,7 @@
 use Rattle.std.proofs.Common.{◌≡◌, ℕ, ◌+◌, ◌-◌, arith, subst}
-use Rattle.programs.specs.Beside.{moment_beside}
-use Rattle.programs.specs.Moment.{Reaches}
-use Rattle.programs.proofs.Sequence.{reaches_start}
+use Rattle.keeper_core.specs.Beside.{moment_beside}
+use Rattle.keeper_core.specs.Moment.{Reaches}
+use Rattle.keeper_core.proofs.Sequence.{reaches_start}
 use Rattle.session_calls.proofs.Joining.{passed_call, same_itself, same_more}
 use Rattle.session_acts.specs.Savepoints.{release_many}
 use Rattle.session_acts.proofs.Savepoints.{release_ended, release_stopped, release_turn}

@@ -1,6 +1,6 @@
 use Rattle.std.proofs.Common.{◌≡◌, ◌+◌, ◌-◌, false, length}
-use Rattle.programs.specs.Beside.{moment_beside}
-use Rattle.programs.specs.Moment.{Reaches}
+use Rattle.keeper_core.specs.Beside.{moment_beside}
+use Rattle.keeper_core.specs.Moment.{Reaches}
 use Rattle.session_scopes.specs.SessionState.{IsInStep, SameObjects}
 use Rattle.session_acts.specs.Savepoints.{release_many}
 use Rattle.session_acts.proofs.inner_scopes.release_many.Given as goal

@@ -6,7 +6,7 @@ use Rattle.session_calls.proofs.Refusing.{call_calm, passed_on}
 use Rattle.session_acts.specs.Savepoints.{begin_savepoint, limit_fault}
 use Rattle.session_acts.specs.Refusals.{Asked, IsRefusedFlushing}
 use Rattle.session_acts.specs.Steps.{begin_nested}
-use Rattle.session_acts.proofs.Flushing.{asking_refused, flush_refused, flushed_then, next_drawn}
+use Rattle.session_acts.proofs.ActLemmas.{asking_refused, flush_refused, flushed_then, next_drawn}
 use Rattle.session_acts.proofs.Unwritten.{act_stopped, not_written}
 use Rattle.session_acts.proofs.nesting.begin_nested.Goals as goal
 

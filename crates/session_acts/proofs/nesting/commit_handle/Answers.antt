@@ -7,7 +7,7 @@ use Rattle.session_calls.proofs.Refusing.{entered_still, passed_on}
 use Rattle.session_acts.specs.Savepoints.{handle_fault, release_handle}
 use Rattle.session_acts.specs.Refusals.{Asked, IsRefusedFlushing}
 use Rattle.session_acts.specs.Steps.{commit_handle}
-use Rattle.session_acts.proofs.Flushing.{asking_refused, flush_refused, flushed_then, handle_inside}
+use Rattle.session_acts.proofs.ActLemmas.{asking_refused, flush_refused, flushed_then, handle_inside}
 use Rattle.session_acts.proofs.Unwritten.{act_stopped, not_written, scope_open}
 use Rattle.session_acts.proofs.nesting.commit_handle.Goals as goal
 

@@ -1,6 +1,6 @@
 use Rattle.std.proofs.Common.{length, sym, ap, ◌∙◌, subst, arith}
 use Rattle.keeper_core.specs.Keeping.{RefusesBulk}
-use Rattle.programs.specs.declared.sent.Sent.TheVariants as sent
+use Rattle.keeper_core.specs.declared.sent.Sent.TheVariants as sent
 use Rattle.schema_core.specs.Catalog.{Catalog}
 use Rattle.session_calls.specs.Refusals.{entered}
 use Rattle.session_calls.specs.Steps.{pending_fault}
@@ -10,7 +10,7 @@ use Rattle.class_mapping.specs.Mapped.{Mapped}
 use Rattle.sql_semantics.specs.Plain.{IsPlainBulk}
 use Rattle.session_statements.specs.Steps.{bulk, update_fault}
 use Rattle.session_acts.specs.Steps as own
-use Rattle.session_acts.proofs.Flushing.{asking_refused, flush_refused, flushed_then}
+use Rattle.session_acts.proofs.ActLemmas.{asking_refused, flush_refused, flushed_then}
 use Rattle.session_acts.specs.Refusals.{Asked, IsRefusedSending, Unflushed}
 use Rattle.session_acts.proofs.Unwritten.{not_sent, not_written, written_since}
 use Rattle.session_acts.proofs.statements.bulk.Goals as goal

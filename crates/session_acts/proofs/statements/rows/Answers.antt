@@ -1,6 +1,6 @@
 use Rattle.std.proofs.Common.{None, sym, subst}
 use Rattle.keeper_core.specs.Keeping.{RefusesSelect}
-use Rattle.programs.specs.declared.sent.Sent.TheVariants as sent
+use Rattle.keeper_core.specs.declared.sent.Sent.TheVariants as sent
 use Rattle.schema_core.specs.Catalog.{Catalog}
 use Rattle.session_calls.specs.Steps.{pending_fault}
 use Rattle.session_calls.proofs.Joining.{err_call, passed_call, then_call}

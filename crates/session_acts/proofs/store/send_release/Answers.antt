@@ -1,10 +1,10 @@
 use Rattle.std.proofs.Common.{◌≡◌, ℕ, ◌-◌, [], ◌∷◌, drop, length, sym, ap, ◌∙◌, subst}
 use Rattle.keeper_core.specs.Calls as call
 use Rattle.keeper_core.specs.Keeping.{IsCall}
-use Rattle.programs.specs.Programs.{Sends}
-use Rattle.programs.specs.Store.{committed_of}
+use Rattle.keeper_core.specs.Programs.{Sends}
+use Rattle.keeper_core.specs.Store.{committed_of}
 use Rattle.schema_core.specs.Tables.{Tables}
-use Rattle.programs.specs.declared.sent.Sent.TheVariants as sent
+use Rattle.keeper_core.specs.declared.sent.Sent.TheVariants as sent
 use Rattle.session_calls.proofs.Noting.{no_note_room, noted_call}
 use Rattle.session_acts.proofs.store.send_release.Goals as goal
 

@@ -5,7 +5,7 @@ use Rattle.session_calls.proofs.Joining.{err_call, passed_call, then_call}
 use Rattle.session_calls.proofs.Refusing.{call_calm, passed_on}
 use Rattle.session_acts.specs.Refusals.{Asked, IsRefusedFlushing}
 use Rattle.session_acts.specs.Steps.{flush_now, flush_whole}
-use Rattle.session_acts.proofs.Flushing.{deep_still}
+use Rattle.session_acts.proofs.ActLemmas.{deep_still}
 use Rattle.session_acts.proofs.Unwritten.{flushed_since, none_written}
 use Rattle.session_acts.proofs.transaction.flush_now.Goals as goal
 

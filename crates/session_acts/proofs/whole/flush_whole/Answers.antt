@@ -2,7 +2,7 @@ use Rattle.std.proofs.Common.{Bool, refl, sym, ap, ◌∙◌}
 use Rattle.base_core.specs.declared.refusal.Refusal.TheVariants.{NotBuilt}
 use Rattle.session_calls.specs.Parts.{fault_if}
 use Rattle.session_calls.proofs.Joining.{err_call, fails, passes, then_call}
-use Rattle.session_flush.specs.Flush.{flush}
+use Rattle.session_acts.specs.Flush.{flush}
 use Rattle.session_acts.specs.Refusals.{Orphaned}
 use Rattle.session_acts.specs.Steps.{flush_whole, orphan_fault}
 use Rattle.session_acts.proofs.Unwritten.{given_up_for}

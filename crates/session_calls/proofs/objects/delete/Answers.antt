@@ -1,5 +1,5 @@
 use Rattle.session_parts.proofs.ObjectLemmas.{made_still}
-use Rattle.programs.specs.Beside.{on_own}
+use Rattle.keeper_core.specs.Beside.{on_own}
 use Rattle.session_scopes.specs.Changes.{deletion_marked}
 use Rattle.session_calls.specs.Refusals.{IsRefused, mark_fault}
 use Rattle.session_calls.specs.Steps.{delete, pending_fault}

@@ -1,6 +1,6 @@
 use Rattle.session_parts.proofs.ObjectLemmas.{made_still}
 use Rattle.session_calls.proofs.Acting.{attr_still}
-use Rattle.programs.specs.Beside.{on_own}
+use Rattle.keeper_core.specs.Beside.{on_own}
 use Rattle.session_scopes.specs.Changes.{cell_read}
 use Rattle.session_calls.specs.Refusals.{IsRefused, read_fault}
 use Rattle.session_calls.specs.Steps.{pending_fault, read_cell}

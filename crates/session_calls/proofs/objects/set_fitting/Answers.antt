@@ -1,4 +1,4 @@
-use Rattle.programs.specs.Beside.{on_own}
+use Rattle.keeper_core.specs.Beside.{on_own}
 use Rattle.session_parts.proofs.ObjectLemmas.{made_still}
 use Rattle.session_scopes.specs.Changes.{value_put}
 use Rattle.session_calls.specs.Refusals.{IsRefused, kept_fault}

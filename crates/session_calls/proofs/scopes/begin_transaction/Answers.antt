@@ -1,5 +1,5 @@
 use Rattle.std.proofs.Common.{length, ap, ◌∙◌}
-use Rattle.programs.specs.Beside.{changes}
+use Rattle.keeper_core.specs.Beside.{changes}
 use Rattle.session_scopes.specs.Scoping.{session_begun}
 use Rattle.session_scopes.specs.SessionState.{SessionState}
 use Rattle.session_calls.proofs.Acting.{begun_long, begun_open, begun_well, memory_stops}

@@ -1,6 +1,6 @@
 use Rattle.std.proofs.Common.{refl}
 use Rattle.keeper_core.specs.Calls as call
-use Rattle.programs.specs.declared.sent.Sent.TheVariants as sent
+use Rattle.keeper_core.specs.declared.sent.Sent.TheVariants as sent
 use Rattle.session_calls.proofs.Noting.{no_note_room, noted_call}
 use Rattle.session_calls.proofs.store.begin_store.Goals as goal
 

@@ -1,6 +1,6 @@
 use Rattle.std.proofs.Common.{Some, ap, inl, inr, ◌∙◌, refl, subst, sym, Bool}
 use Rattle.object_arena.specs.Graph.{IsObject}
-use Rattle.programs.specs.Programs.{ends_early}
+use Rattle.keeper_core.specs.Programs.{ends_early}
 use Rattle.session_calls.proofs.Joining.{passed_call, same_itself}
 use Rattle.session_calls.proofs.Refusing.{passed_on}
 use Rattle.session_objects.specs.Steps.{IsRefusedInside}

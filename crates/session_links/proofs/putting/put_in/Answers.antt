@@ -2,8 +2,8 @@ use Rattle.std.proofs.Common.{◌<◌, length, not, sym, ap, ◌∙◌, subst}
 use Rattle.object_arena.specs.declared.object.Object.{Object}
 use Rattle.object_arena.specs.Graph.{Graph, object_at}
 use Rattle.session_parts.proofs.ObjectLemmas.{on_ok}
-use Rattle.touching.specs.Same.{same_object}
-use Rattle.touching.specs.Touched.{frames_touched_between}
+use Rattle.object_records.specs.Same.{same_object}
+use Rattle.object_records.specs.Touched.{frames_touched_between}
 use Rattle.session_links.specs.Putting.{linked_object}
 use Rattle.session_links.proofs.putting.put_in.Goals as goal
 

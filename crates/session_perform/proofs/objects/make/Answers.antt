@@ -3,7 +3,7 @@ use Rattle.session_calls.specs.Refusals.{IsRefused, fault_in}
 use Rattle.session_calls.proofs.Refusing.{passed_on}
 use Rattle.session_perform.proofs.Refusing.{made_refused}
 use Rattle.class_types.specs.Shown.{rules_of}
-use Rattle.session_values.specs.Steps.{valid_made}
+use Rattle.session_objects.specs.ValueSteps.{valid_made}
 use Rattle.session_perform.proofs.Performed.{makes, makes_not, passed}
 use Rattle.session_perform.proofs.objects.make.Goals as goal
 

@@ -1,7 +1,7 @@
 use Rattle.std.proofs.Common.{◌∙◌, ap}
 use Rattle.base_core.specs.declared.ids.TableId.{TableId}
 use Rattle.keeper_core.specs.Keeping.{RefusesBulk}
-use Rattle.programs.specs.declared.sent.Sent.TheVariants as sent
+use Rattle.keeper_core.specs.declared.sent.Sent.TheVariants as sent
 use Rattle.session_calls.proofs.Joining.{passed_call}
 use Rattle.session_calls.proofs.Refusing.{passed_on}
 use Rattle.session_statements.specs.Refusals.{IsRefusedByKeeper}

@@ -2,8 +2,8 @@ use Rattle.std.proofs.Common.{drop}
 use Rattle.std.specs.List.{All}
 use Rattle.schema_core.specs.Catalog.{IsTable}
 use Rattle.schema_core.specs.DependencyOrder.{table_ids}
-use Rattle.programs.specs.Programs.{each}
-use Rattle.programs.specs.Moment.{Reaches}
+use Rattle.keeper_core.specs.Programs.{each}
+use Rattle.keeper_core.specs.Moment.{Reaches}
 use Rattle.session_parts.specs.Depths.{HasDepth}
 use Rattle.session_tables.specs.Dump.{scan_each, scan_one}
 use Rattle.session_tables.proofs.scanning.scan_each.Given as goal

@@ -1,6 +1,6 @@
 use Rattle.std.proofs.Common.{◌≡◌, true, refl, rules}
-use Rattle.programs.specs.Programs.{ends_early}
-use Rattle.programs.proofs.Sequence.{reaches_start, unit_end, unit_err, unit_turn}
+use Rattle.keeper_core.specs.Programs.{ends_early}
+use Rattle.keeper_core.proofs.Sequence.{reaches_start, unit_end, unit_err, unit_turn}
 use Rattle.session_calls.proofs.Joining.{passed_call, same_alike, same_more}
 use Rattle.session_calls.proofs.Refusing.{passed_on}
 use Rattle.session_tables.specs.Steps.{change_one}

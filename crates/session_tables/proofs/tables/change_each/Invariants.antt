@@ -1,7 +1,7 @@
 use Rattle.std.proofs.Common.{drop}
-use Rattle.programs.specs.Beside.{moment_beside}
-use Rattle.programs.specs.Programs.{each}
-use Rattle.programs.specs.Moment.{Reaches}
+use Rattle.keeper_core.specs.Beside.{moment_beside}
+use Rattle.keeper_core.specs.Programs.{each}
+use Rattle.keeper_core.specs.Moment.{Reaches}
 use Rattle.session_scopes.specs.SessionState.{AreAlikeButNotes, IsInStep}
 use Rattle.session_tables.specs.Steps.{change_one}
 use Rattle.session_tables.proofs.tables.change_each.Given as goal

@@ -1,6 +1,6 @@
 use Rattle.std.proofs.Common.{◌≡◌, Bool, true, Ok, OnOk, subst}
-use Rattle.programs.specs.Programs.{ends_early}
-use Rattle.programs.specs.declared.sent.Sent.{Sent}
+use Rattle.keeper_core.specs.Programs.{ends_early}
+use Rattle.keeper_core.specs.declared.sent.Sent.{Sent}
 use Rattle.session_scopes.specs.SessionState.{with_note}
 use Rattle.keeper_core.specs.Keeping.{IsCall}
 use Rattle.session_tables.specs.Steps.{change_in_store}

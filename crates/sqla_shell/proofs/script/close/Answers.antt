@@ -1,6 +1,6 @@
 use Rattle.std.proofs.Common.{subst}
-use Rattle.programs.proofs.Sequence.{then_ok}
-use Rattle.programs.proofs.Lifting.{acts_answering}
+use Rattle.keeper_core.proofs.Sequence.{then_ok}
+use Rattle.keeper_core.proofs.Lifting.{acts_answering}
 use Rattle.shell_steps.specs.ShellState.{ShellState}
 use Rattle.sqla_shell.specs.Outcome.{HasWritten}
 use Rattle.sqla_shell.specs.Reference.{close_and_tell, writes}

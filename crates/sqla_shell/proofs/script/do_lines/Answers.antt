@@ -1,7 +1,7 @@
 use Rattle.std.proofs.Common.{◌≡◌, ◌≤◌, true, Ok, Err, refl, sym, subst, arith}
 use Rattle.std.specs.Io.KnownBytes.{IsAtEnd}
-use Rattle.programs.specs.Moment.{Runs}
-use Rattle.script_lines.specs.Cutting.{IsNextOf, KeepsLimits, to_come}
+use Rattle.keeper_core.specs.Moment.{Runs}
+use Rattle.byte_streams.specs.Cutting.{IsNextOf, KeepsLimits, to_come}
 use Rattle.shell_steps.specs.ShellState.{ShellState}
 use Rattle.class_types.specs.Shown.{rules_of}
 use Rattle.sqla_shell.specs.Causes.{stop_refusal}

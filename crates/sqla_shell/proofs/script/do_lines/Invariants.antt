@@ -1,5 +1,5 @@
 use Rattle.std.proofs.Common.{◌≤◌, Ok}
-use Rattle.script_lines.specs.Cutting.{FitsSource, most_bytes, to_come}
+use Rattle.byte_streams.specs.Cutting.{FitsSource, most_bytes, to_come}
 use Rattle.shell_stage.specs.Stages.{IsReady}
 use Rattle.class_types.specs.Shown.{rules_of}
 use Rattle.sqla_shell.specs.Outcome.{moment_writing}

@@ -2,7 +2,7 @@ use Rattle.std.proofs.Common.{Ok, refl, subst}
 use Rattle.shell_steps.specs.ShellState.{ShellState}
 use Rattle.class_types.specs.Shown.{rules_of}
 use Rattle.sqla_shell.specs.Outcome.{DoesLines, moment_writing}
-use Rattle.programs.specs.Programs.{as_refusal}
+use Rattle.keeper_core.specs.Programs.{as_refusal}
 use Rattle.sqla_shell.specs.Causes.{stop_refusal}
 use Rattle.sqla_shell.proofs.EndLemmas.{script_finished, script_stopped, script_too_long}
 use Rattle.sqla_shell.proofs.KeepsLemmas.{beside_source, keeps_passed, keeps_then}

@@ -1,8 +1,8 @@
 use Rattle.std.proofs.Common.{Ok, Err, refl, ap, subst}
-use Rattle.programs.proofs.Lifting.{acts_answering}
-use Rattle.programs.proofs.Sequence.{done, then_ok}
-use Rattle.programs.specs.Programs.{Run, ends_early, give, ◌>>=◌}
-use Rattle.programs.specs.Beside.{Beside}
+use Rattle.keeper_core.proofs.Lifting.{acts_answering}
+use Rattle.keeper_core.proofs.Sequence.{done, then_ok}
+use Rattle.keeper_core.specs.Programs.{Run, ends_early, give, ◌>>=◌}
+use Rattle.keeper_core.specs.Beside.{Beside}
 use Rattle.shell_steps.specs.ShellState.{ShellState}
 use Rattle.sqla_shell.specs.Outcome.{HasWritten}
 use Rattle.sqla_shell.specs.Reference.{close_and_tell, end_script, writes}

@@ -1,6 +1,6 @@
 -- A fault ends the call; else what was done with the statement is what the call ensures.
 use Rattle.std.proofs.Common.{refl}
-use Rattle.programs.specs.declared.sent.Sent.TheVariants as sent
+use Rattle.keeper_core.specs.declared.sent.Sent.TheVariants as sent
 use Rattle.keeper_core.specs.Calls as call
 use Rattle.keeper_mem.proofs.Keeping.{statement_faulted, statement_marked, statement_ran}
 use Rattle.keeper_mem.proofs.acting.MemKeeperKeeper.bulk.Goals as goal

@@ -1,6 +1,6 @@
 -- A fault ends the call.
 use Rattle.std.proofs.Common.{[], ap, ◌∙◌}
-use Rattle.programs.specs.declared.sent.Sent.TheVariants as sent
+use Rattle.keeper_core.specs.declared.sent.Sent.TheVariants as sent
 use Rattle.table_log.specs.Marks.{no_marks}
 use Rattle.keeper_mem.specs.Kept.{Kept, sent_by}
 use Rattle.keeper_mem.proofs.Keeping.{committed, faulted}

@@ -1,8 +1,8 @@
 -- A fault, or memory that ran out, ends the call.
 use Rattle.std.proofs.Common.{◌≡◌, true, rules, sym, ap, ◌∙◌}
 use Rattle.schema_core.specs.Tables.{is_created}
-use Rattle.programs.specs.declared.sent.Sent.TheVariants as sent
-use Rattle.programs.specs.Store.{without_table}
+use Rattle.keeper_core.specs.declared.sent.Sent.TheVariants as sent
+use Rattle.keeper_core.specs.Store.{without_table}
 use Rattle.keeper_mem.specs.Kept.{Kept, call_ended, sent_by}
 use Rattle.keeper_mem.proofs.Keeping.{faulted, ran_out, removed}
 use Rattle.keeper_mem.proofs.acting.MemKeeperKeeper.drop_table.Goals as goal

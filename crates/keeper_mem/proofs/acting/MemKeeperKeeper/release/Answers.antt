@@ -1,6 +1,6 @@
 -- A fault ends the call.
 use Rattle.std.proofs.Common.{◌-◌, length, drop, ap, ◌∙◌}
-use Rattle.programs.specs.declared.sent.Sent.TheVariants as sent
+use Rattle.keeper_core.specs.declared.sent.Sent.TheVariants as sent
 use Rattle.keeper_mem.specs.Kept.{Kept, sent_by}
 use Rattle.keeper_mem.proofs.Keeping.{faulted, released}
 use Rattle.keeper_mem.proofs.acting.MemKeeperKeeper.release.Goals as goal

@@ -1,7 +1,7 @@
 -- A fault ends the call.
 use Rattle.std.proofs.Common.{[], ap, ◌∙◌}
-use Rattle.programs.specs.declared.sent.Sent.TheVariants as sent
-use Rattle.programs.specs.Store.{committed_of}
+use Rattle.keeper_core.specs.declared.sent.Sent.TheVariants as sent
+use Rattle.keeper_core.specs.Store.{committed_of}
 use Rattle.table_log.specs.Marks.{no_marks}
 use Rattle.keeper_mem.specs.Kept.{Kept, sent_by}
 use Rattle.keeper_mem.proofs.Keeping.{faulted, rolled_back}

@@ -1,7 +1,7 @@
 use Rattle.std.proofs.Common.{◌≡◌, ◌-◌, ◌<◌, ◌∙◌, List, length, true, false, refl, sym, subst, arith, get_or}
 use Rattle.std.proofs.lemmas.List.{get_or_default}
 use Rattle.base_core.specs.declared.ids.ClassId.{ClassId}
-use Rattle.identity_maps.specs.Entries.{IsPut}
+use Rattle.object_arena.specs.Entries.{IsPut}
 use Rattle.object_arena.specs.Graph.{Graph, IsObject, no_class_id}
 use Rattle.object_arena.specs.Identity.{is_taken}
 use Rattle.object_arena.proofs.IndexLemmas.{indexed_registered}

@@ -1,6 +1,6 @@
 -- The tables are those at the start of the log.
 use Rattle.std.proofs.Common.{ℕ, List, [], ap, ◌∙◌}
-use Rattle.programs.specs.Store.{committed_of}
+use Rattle.keeper_core.specs.Store.{committed_of}
 use Rattle.table_rows.specs.Rows.{tables_present}
 use Rattle.table_log.specs.Marks.{Marked}
 use Rattle.table_log.specs.Undone.{scopes_at}

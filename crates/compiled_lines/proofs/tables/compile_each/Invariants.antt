@@ -1,6 +1,0 @@
-use Rattle.std.proofs.Common.{◌≡◌, drop}
-use Rattle.compiled_lines.specs.CompiledLines.{each_compiled}
-use Rattle.compiled_lines.proofs.tables.compile_each.Given as goal
-
-abbrev pub invariant-loop-table : goal.invariant-loop-table
-invariant-loop-table l = each_compiled l.quoting l.schema l.tables ≡ each_compiled l.quoting l.schema (drop l.table-index l.tables)

@@ -1,5 +1,0 @@
-use Rattle.flush_laws.proofs.Graphs.Prefixes.{prefixes_legal}
-use Rattle.flush_laws.proofs.graph_laws.flush_prefixes_are_legal.Goals as goal
-
-pub returns-clause-prefixes : goal.returns-clause-prefixes
-returns-clause-prefixes c = prefixes_legal

@@ -1,5 +1,0 @@
-use Rattle.flush_laws.proofs.Held.Held.{flushed_held}
-use Rattle.flush_laws.proofs.held_laws.flushed_objects_hold.Goals as goal
-
-pub returns : goal.returns
-returns c = flushed_held

@@ -1,5 +1,0 @@
-use Rattle.flush_laws.proofs.Plans.Orders.{order_is}
-use Rattle.flush_laws.proofs.order.order_or_cycle.Goals as goal
-
-pub returns-clause-order : goal.returns-clause-order
-returns-clause-order c = order_is

@@ -1,5 +1,0 @@
-use Rattle.flush_laws.proofs.Plans.RunsWhole.{runs_whole}
-use Rattle.flush_laws.proofs.order.runs_are_whole.Goals as goal
-
-pub returns : goal.returns
-returns c = runs_whole

@@ -1,5 +1,0 @@
-use Rattle.flush_laws.proofs.OwnRows.Standing.{own_rows}
-use Rattle.flush_laws.proofs.own_row_laws.objects_have_own_rows.Goals as goal
-
-pub returns : goal.returns
-returns c = own_rows

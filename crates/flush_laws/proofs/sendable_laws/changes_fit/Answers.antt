@@ -1,5 +1,0 @@
-use Rattle.flush_laws.proofs.Sendable.Changes.{changes_fit_law}
-use Rattle.flush_laws.proofs.sendable_laws.changes_fit.Goals as goal
-
-pub returns : goal.returns
-returns c = changes_fit_law

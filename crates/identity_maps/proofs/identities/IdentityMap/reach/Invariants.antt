@@ -1,6 +1,0 @@
-use Rattle.std.proofs.Common.{◌≡◌, ◌+◌, length}
-use Rattle.identity_maps.specs.Entries.{IsSame}
-use Rattle.identity_maps.proofs.identities.IdentityMap.reach.Given as goal
-
-abbrev pub invariant-loop-added : goal.invariant-loop-added
-invariant-loop-added l = IsSame l.fn.self.maps.items l.self.maps.items × (length l.self.maps.items ≡ length l.fn.self.maps.items + l._added)

@@ -1,2 +1,0 @@
-pub mod Savepoints
-pub mod Legality

@@ -1,0 +1,32 @@
+use Rattle.keeper_core.proofs.Lifting.{no_room}
+use Rattle.keeper_core.proofs.Sequence.{passed_on}
+use Rattle.load_rows.specs.Reading.{identity_key}
+use Rattle.load_calls.proofs.ReadLemmas.{passed_memory, passed_stays}
+use Rattle.load_calls.specs.Refusals.{CanRefuseRows}
+use Rattle.load_calls.proofs.RefusalLemmas.{refused_select}
+use Rattle.load_calls.proofs.CollectionLemmas.{declared_told, members_read, members_rows}
+use Rattle.load_calls.proofs.collections.read_members.Goals as goal
+
+pub returns-in_err-wanted-clause-step : goal.returns-in_err-wanted-clause-step
+returns-in_err-wanted-clause-step g c = passed_on c.from_residual.ensures.1 (no_room c.in_err-wanted.ensures.cause)
+
+pub returns-in_err-wanted-clause-stays : goal.returns-in_err-wanted-clause-stays
+returns-in_err-wanted-clause-stays g c = passed_stays c.args.mapping.now.schema (g.K.Keeper.moment c.args.keeper.now) _ c.from_residual.result c.from_residual.ensures.1 c.in_err-wanted.ensures.cause
+
+pub returns-clause-step : goal.returns-clause-step
+returns-clause-step g c =
+    members_read g.K.Keeper.moment c.args.mapping.now c.args.relation.now c.args.owner c.args.arena.now c.in_ok-wanted.wanted c.in_ok-wanted.ensures.select (c.read-rows.ensures.step c.args.arena.now)
+
+pub returns-clause-rows : goal.returns-clause-rows
+returns-clause-rows g c =
+    members_rows c.args.mapping.now c.args.relation.now (identity_key c.args.arena.now c.args.owner) c.in_ok-wanted.wanted c.read-rows.result c.in_ok-wanted.ensures.hierarchies c.in_ok-wanted.ensures.related
+    c.in_ok-wanted.ensures.select c.read-rows.ensures.kinds c.read-rows.ensures.given
+
+pub returns-clause-target : goal.returns-clause-target
+returns-clause-target g c = declared_told c.args.mapping.now c.args.relation.now.target c.read-rows.result c.in_ok-wanted.ensures.related.target
+
+pub returns-in_err-wanted-clause-refuses : goal.returns-in_err-wanted-clause-refuses
+returns-in_err-wanted-clause-refuses g c = passed_memory (CanRefuseRows c.args.mapping.now) _ c.from_residual.result c.from_residual.ensures.1 c.in_err-wanted.ensures.cause tt
+
+pub returns-clause-refuses : goal.returns-clause-refuses
+returns-clause-refuses g c = refused_select c.args.mapping.now c.in_ok-wanted.wanted c.read-rows.result c.read-rows.ensures.refuses

@@ -1,2 +1,0 @@
-pub mod Collections
-pub mod Refusals

@@ -1,3 +1,0 @@
-pub mod GivenSteps
-pub mod FillSteps
-pub mod AnswerSteps

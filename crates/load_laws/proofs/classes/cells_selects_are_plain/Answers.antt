@@ -1,5 +1,0 @@
-use Rattle.load_laws.proofs.ClassLemmas.{cells_are_plain}
-use Rattle.load_laws.proofs.classes.cells_selects_are_plain.Goals as goal
-
-pub returns : goal.returns
-returns c = λ mapped class attrs key has less there fits. cells_are_plain mapped class attrs key has less there fits

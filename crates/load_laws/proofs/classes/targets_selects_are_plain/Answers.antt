@@ -1,5 +1,0 @@
-use Rattle.load_laws.proofs.ClassLemmas.{targets_are_plain}
-use Rattle.load_laws.proofs.classes.targets_selects_are_plain.Goals as goal
-
-pub returns : goal.returns
-returns c = λ mapped class keys has less some fit. targets_are_plain mapped class keys has less some fit

@@ -1,5 +1,0 @@
-use Rattle.load_laws.proofs.PairLemmas.{members_are_plain}
-use Rattle.load_laws.proofs.members.members_selects_are_plain.Goals as goal
-
-pub returns : goal.returns
-returns c = λ mapped relation key has related many fits. members_are_plain mapped relation key has related many fits

@@ -1,5 +1,0 @@
-use Rattle.load_laws.proofs.Rows.{are_rows}
-use Rattle.load_laws.proofs.row_laws.rows_are_of_classes.Goals as goal
-
-pub returns : goal.returns
-returns c = λ mapped class conditions rows has less kinds given. are_rows mapped class conditions rows has less kinds given

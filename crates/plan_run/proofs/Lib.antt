@@ -1,4 +1,0 @@
-pub mod Noted
-pub mod Causes
-pub mod OneStatement
-pub mod Along

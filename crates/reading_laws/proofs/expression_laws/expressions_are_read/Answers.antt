@@ -1,5 +1,0 @@
-use Rattle.reading_laws.proofs.Texts.Expressions.Full.{expressions_are_read}
-use Rattle.reading_laws.proofs.expression_laws.expressions_are_read.Goals as goal
-
-pub returns : goal.returns
-returns c = expressions_are_read

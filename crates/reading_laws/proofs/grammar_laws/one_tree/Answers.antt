@@ -1,5 +1,0 @@
-use Rattle.reading_laws.proofs.Texts.Grammar.OneTree.{one_tree}
-use Rattle.reading_laws.proofs.grammar_laws.one_tree.Goals as goal
-
-pub returns : goal.returns
-returns c = one_tree

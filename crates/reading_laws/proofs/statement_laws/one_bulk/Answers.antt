@@ -1,5 +1,0 @@
-use Rattle.reading_laws.proofs.Texts.Statements.Bulks.{one_bulk}
-use Rattle.reading_laws.proofs.statement_laws.one_bulk.Goals as goal
-
-pub returns : goal.returns
-returns c = one_bulk

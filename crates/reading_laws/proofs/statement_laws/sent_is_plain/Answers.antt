@@ -1,5 +1,0 @@
-use Rattle.reading_laws.proofs.Texts.Statements.Statements.{sent_is_plain}
-use Rattle.reading_laws.proofs.statement_laws.sent_is_plain.Goals as goal
-
-pub returns : goal.returns
-returns c = sent_is_plain

@@ -1,5 +1,0 @@
-use Rattle.reading_laws.proofs.Texts.Values.Rows.{values_are_in_no_text}
-use Rattle.reading_laws.proofs.value_laws.values_are_in_no_text.Goals as goal
-
-pub returns : goal.returns
-returns c = values_are_in_no_text

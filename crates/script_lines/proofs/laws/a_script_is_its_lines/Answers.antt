@@ -1,5 +1,0 @@
-use Rattle.script_lines.proofs.Scripts.{of_its_lines}
-use Rattle.script_lines.proofs.laws.a_script_is_its_lines.Goals as goal
-
-pub returns : goal.returns
-returns c = of_its_lines

@@ -1,0 +1,55 @@
+use Rattle.std.proofs.Common.{IfErr, OnOk, refl, ap}
+use Rattle.schema_core.specs.declared.changes.RowChanges.{RowChanges}
+use Rattle.object_rows.specs.declared.prepared.Prepared.{Prepared}
+use Rattle.session_calls.proofs.Joining.{passed_call}
+use Rattle.session_calls.proofs.Refusing.{passed_on}
+use Rattle.session_acts.specs.Outcome.{IsFlushCause, IsUntouched, IsWriteCause, IsWritten, changes_of}
+use Rattle.session_acts.proofs.Outcomes.{as_flushed, memory_cause, untouched_early}
+use Rattle.session_acts.proofs.Steps.{no_room_alike, objects_written}
+use Rattle.session_acts.proofs.writing.write_objects.Goals as goal
+
+pub returns-in_err-prepared-clause-call : goal.returns-in_err-prepared-clause-call
+returns-in_err-prepared-clause-call g c = passed_call c.from_residual.ensures.1 (no_room_alike g.K.Keeper.moment c.in_err-prepared.ensures.cause refl)
+
+pub returns-in_err-prepared-clause-untouched : goal.returns-in_err-prepared-clause-untouched
+returns-in_err-prepared-clause-untouched g c =
+    passed_on (λ e. IsUntouched e c.args.session.now c.args.session.now) c.from_residual.result c.from_residual.ensures.1 (untouched_early c.in_err-prepared.field-0.0 c.args.session.now c.args.session.now c.in_err-prepared.ensures.cause)
+
+pub returns-in_err-prepared-clause-cause : goal.returns-in_err-prepared-clause-cause
+returns-in_err-prepared-clause-cause g c =
+    passed_on (λ e. IsFlushCause c.args.session.now (g.K.Keeper.moment c.args.keeper.now) e (g.K.Keeper.moment c.args.keeper.now)) c.from_residual.result c.from_residual.ensures.1
+    (memory_cause c.args.session.now.mapping.schema (changes_of c.args.session.now) c.in_err-prepared.field-0.0 (g.K.Keeper.moment c.args.keeper.now) (g.K.Keeper.moment c.args.keeper.now) c.in_err-prepared.ensures.cause)
+
+pub returns-in_err-rows-clause-call : goal.returns-in_err-rows-clause-call
+returns-in_err-rows-clause-call g c = passed_call c.from_residual-in_err-rows.ensures.1 (no_room_alike g.K.Keeper.moment c.in_err-rows.ensures.cause refl)
+
+pub returns-in_err-rows-clause-untouched : goal.returns-in_err-rows-clause-untouched
+returns-in_err-rows-clause-untouched g c =
+    passed_on (λ e. IsUntouched e c.args.session.now c.args.session.now) c.from_residual-in_err-rows.result c.from_residual-in_err-rows.ensures.1 (untouched_early c.in_err-rows.field-0.0 c.args.session.now c.args.session.now c.in_err-rows.ensures.cause)
+
+pub returns-in_err-rows-clause-cause : goal.returns-in_err-rows-clause-cause
+returns-in_err-rows-clause-cause g c =
+    passed_on (λ e. IsFlushCause c.args.session.now (g.K.Keeper.moment c.args.keeper.now) e (g.K.Keeper.moment c.args.keeper.now)) c.from_residual-in_err-rows.result c.from_residual-in_err-rows.ensures.1
+    (memory_cause c.args.session.now.mapping.schema (changes_of c.args.session.now) c.in_err-rows.field-0.0 (g.K.Keeper.moment c.args.keeper.now) (g.K.Keeper.moment c.args.keeper.now) c.in_err-rows.ensures.cause)
+
+pub write_warned-requires : goal.write_warned-requires
+write_warned-requires g c = record {
+  in_step = c.requires.in_step;
+  inside = c.requires.inside;
+  range = c.in_ok-rows.ensures.range;
+  cleared = ap (λ (p : Prepared). p.cleared) c.in_ok-prepared.ensures.prepared;
+}
+
+pub returns-clause-call : goal.returns-clause-call
+returns-clause-call g c = objects_written g.K.Keeper.moment c.in_ok-prepared.prepared c.in_ok-rows.rows c.in_ok-prepared.ensures.prepared c.in_ok-rows.ensures.changes c.requires.in_step c.write_warned.ensures.call
+
+pub returns-clause-flushed : goal.returns-clause-flushed
+returns-clause-flushed g c =
+    as_flushed (λ (p : Prepared) (rows : RowChanges). OnOk c.write_warned.result (IsWritten p rows c.args.session.now c.write_warned.new.session)) c.args.session.now c.in_ok-prepared.prepared c.in_ok-rows.rows c.in_ok-prepared.ensures.prepared
+    c.in_ok-rows.ensures.changes c.write_warned.ensures.written
+
+pub returns-clause-cause : goal.returns-clause-cause
+returns-clause-cause g c =
+    as_flushed
+    (λ (p : Prepared) (rows : RowChanges). IfErr c.write_warned.result (λ e. IsWriteCause c.args.session.now.mapping.schema rows (g.K.Keeper.moment c.args.keeper.now) e (g.K.Keeper.moment c.write_warned.new.keeper)))
+    c.args.session.now c.in_ok-prepared.prepared c.in_ok-rows.rows c.in_ok-prepared.ensures.prepared c.in_ok-rows.ensures.changes c.write_warned.ensures.cause

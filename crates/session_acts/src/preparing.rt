@@ -1,0 +1,101 @@
+//! What is decided before a flush, what it changes, and the plan of that.
+
+ghost use Rattle.std.specs.Prelude.{◌≡◌, ◌++◌, [], ◌∷◌, cond, IfErr, IfOk, OnOk};
+ghost use Rattle.std.specs.List.{filter};
+ghost use Rattle.base_core.specs.Answers.{Gives};
+ghost use Rattle.base_core.specs.declared.refusal.Refusal.TheVariants.{Memory};
+ghost use Rattle.flush_order.specs.Ready.{AreInRange};
+ghost use Rattle.flush_plan.specs.Planning.{plan};
+ghost use Rattle.object_arena.specs.Graph.{IsObject};
+ghost use Rattle.object_rows.specs.Seen.{AreMade, object_ids};
+ghost use Rattle.row_project.specs.Changes.{project};
+ghost use Rattle.session_acts.specs.Flush as spec;
+
+use base_core::{ListOf, ObjId, ObjList, Refusal};
+use flush_plan::plan;
+use object_arena::{Arena, State};
+use object_rows::Prepared;
+use row_project::project;
+use schema_core::{Plan, RowChanges};
+use session_scopes::Session;
+use std::alloc::Global;
+
+/// Whether an object is persistent and marked.
+fn is_to_delete(arena: &Arena, object: ObjId) -> bool
+    requires { IsObject arena.now object }
+    ensures { result ≡ spec.is_to_delete arena.now object }
+{
+    let record = arena.object(object);
+    matches!(record.state, State::Persistent) && record.marked
+}
+
+/// Puts an object behind others, where it is to be deleted.
+fn push_marked(marked: &mut ObjList, arena: &Arena, object: ObjId) -> Result<(), Refusal>
+    requires { IsObject arena.now object }
+    ensures marked { OnOk result (marked.new
+        ≡ marked.old ++ cond (spec.is_to_delete arena.now object) (object ∷ []) []) }
+    ensures cause { IfErr result (λ e. e ≡ Memory) }
+{
+    if is_to_delete(arena, object) {
+        marked.push(object)?;
+    }
+    Ok(())
+}
+
+/// The persistent objects that are marked, by number.
+fn marked_objects(alloc: Global, arena: &Arena) -> Result<ObjList, Refusal>
+    ensures marked { IfOk result
+        (λ marked. marked ≡ filter (spec.is_to_delete arena.now) (object_ids arena.now)) }
+    ensures cause { IfErr result (λ e. e ≡ Memory) }
+{
+    let mut marked = ListOf::new(alloc);
+    for place in 0..arena.count() {
+        push_marked(&mut marked, arena, ObjId(place + 1))?;
+    }
+    Ok(marked)
+}
+
+/// What is decided of the objects before a flush: the marked ones are to be deleted. The only refusal is `Memory`.
+pub(crate) fn prepared_objects(session: &Session) -> Result<Prepared, Refusal>
+    ensures prepared { IfOk result (λ prepared. prepared ≡ spec.prepared_of session.now.graph) }
+    ensures made { IfOk result (AreMade session.now.graph) }
+    ensures cause { IfErr result (λ e. e ≡ Memory) }
+{
+    let alloc = session.alloc();
+    let deleted = marked_objects(alloc, session.arena())?;
+    Ok(Prepared {
+        deleted,
+        transient: ListOf::new(alloc),
+        cleared: ListOf::new(alloc),
+    })
+}
+
+/// What a flush of the prepared objects changes. The only refusal is `Memory`.
+pub(crate) fn prepared_changes(
+    session: &Session,
+    prepared: &Prepared,
+) -> Result<RowChanges, Refusal>
+    requires { AreMade session.now.graph prepared.now }
+    ensures changes { IfOk result (λ changes. changes
+        ≡ project session.now.mapping session.now.graph prepared.now) }
+    ensures range { IfOk result (AreInRange session.now.mapping.schema) }
+    ensures cause { IfErr result (λ e. e ≡ Memory) }
+{
+    project(
+        session.alloc(),
+        session.arena(),
+        session.mapping(),
+        prepared,
+    )
+}
+
+/// The plan of changes.
+///
+/// # Errors
+/// `CircularDependencyError` where no order is left; `Memory`.
+pub(crate) fn planned_changes(session: &Session, rows: &RowChanges) -> Result<Plan, Refusal>
+    requires { AreInRange session.now.mapping.schema rows.now }
+    ensures { Gives (λ plan. plan) result (plan session.now.mapping.schema rows.now) }
+{
+    plan(session.alloc(), session.mapping().schema(), rows)
+}

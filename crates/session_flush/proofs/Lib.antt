@@ -1,5 +1,0 @@
-mod Guarding
-mod Outcomes
-mod Planned
-mod Ready
-mod Steps

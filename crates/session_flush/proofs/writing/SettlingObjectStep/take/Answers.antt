@@ -1,7 +1,0 @@
-use Rattle.session_flush.proofs.writing.SettlingObjectStep.take.Goals as goal
-
-pub returns-clause-fits : goal.returns-clause-fits
-returns-clause-fits c =
-    c.settle.ensures.fits
-    (c.flushes_fit.ensures c.args.mapping.now c.args.arena.now c.args.self.prepared.now c.args.self.rows.now c.args.self.keys.now (c.has_hierarchies-hierarchies.ensures.hierarchies c.requires.configured) (c.is_configured-related.ensures.related c.requires.configured)
-    c.requires.fit c.requires.ready)

@@ -1,2 +1,0 @@
-pub mod Flush
-pub mod Outcome

@@ -1,4 +1,0 @@
-pub mod Exact
-mod OneObject
-pub mod Scopes
-pub mod Differing

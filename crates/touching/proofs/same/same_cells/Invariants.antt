@@ -1,7 +1,0 @@
-use Rattle.std.proofs.Common.{◌≡◌, ◌≤◌, drop, length}
-use Rattle.std.specs.Cmp.Lexicographic.{pointwise}
-use Rattle.touching.specs.Same.{same_cell}
-use Rattle.touching.proofs.same.same_cells.Given as goal
-
-abbrev pub invariant-loop-place : goal.invariant-loop-place
-invariant-loop-place l = (l.place ≤ length l.other) × (pointwise same_cell (drop l.place l.one) (drop l.place l.other) ≡ pointwise same_cell l.one l.other)
