@@ -10,6 +10,7 @@ was noted.
 """
 import os
 import re
+import signal
 import sys
 
 HERE = os.path.dirname(os.path.dirname(os.path.realpath(__file__)))
@@ -119,4 +120,5 @@ if __name__ == "__main__":
     elif sys.argv[1:]:
         sys.exit(__doc__)
     else:
+        signal.signal(signal.SIGPIPE, signal.SIG_DFL)
         tell(Crates())
