@@ -1,13 +1,12 @@
 //! The names that sources have, and an alias that none of them has. The only refusal is `Memory`.
 
-ghost use Rattle.std.specs.Prelude.{◌≡◌, ◌++◌, ◌∷◌, [], length, map, IfOk, IfErr, OnOk};
+ghost use Rattle.std.specs.Prelude.{◌≡◌, ◌++◌, ◌∷◌, [], length, map, IfOk, OnOk};
 ghost use Rattle.std.specs.List.{flat_map};
-ghost use Rattle.base_core.specs.declared.refusal.Refusal.TheVariants.{Memory};
 ghost use Rattle.schema_core.specs.Catalog.{spec_of};
 ghost use Rattle.sql_semantics.specs.Plain.{name_of, sources_of};
 ghost use Rattle.alias_names.specs.Names as spec;
 
-use base_core::{Copied, ListOf, Name, Refusal, TableId};
+use base_core::{Copied, ListOf, Name, TableId};
 use class_mapping::Mapping;
 use class_sides::has_name;
 use expr_types::{Expr, Origin, Select};
@@ -37,10 +36,9 @@ fn push_name(
     alloc: Global,
     mapping: &Mapping,
     origin: &Origin,
-) -> Result<(), Refusal>
-    ensures name { OnOk result
+) -> Result<(), AllocError>
+    ensures { OnOk result
         (out.new ≡ out.old ++ name_of mapping.now.schema origin.now ∷ []) }
-    ensures cause { IfErr result (λ e. e ≡ Memory) }
 {
     match &origin.alias {
         Some(alias) => out.push(alias.copied()?),
@@ -56,10 +54,9 @@ fn push_exists_names(
     alloc: Global,
     mapping: &Mapping,
     e: &Expr,
-) -> Result<(), Refusal>
-    ensures names { OnOk result
+) -> Result<(), AllocError>
+    ensures { OnOk result
         (out.new ≡ out.old ++ spec.exists_names mapping.now.schema e.now) }
-    ensures cause { IfErr result (λ e. e ≡ Memory) }
 {
     match e {
         Expr::Column(_, _) | Expr::Lit(_) | Expr::CountAll => Ok(()),
@@ -101,10 +98,9 @@ fn push_all_names(
     alloc: Global,
     mapping: &Mapping,
     es: &[Expr],
-) -> Result<(), Refusal>
-    ensures names { OnOk result
+) -> Result<(), AllocError>
+    ensures { OnOk result
         (out.new ≡ out.old ++ flat_map (spec.exists_names mapping.now.schema) es.now) }
-    ensures cause { IfErr result (λ e. e ≡ Memory) }
 {
     for e in es {
         push_exists_names(out, alloc, mapping, e)?;
@@ -120,10 +116,13 @@ fn table_count(mapping: &Mapping) -> u32
 }
 
 /// The names of the tables go behind others.
-fn push_table_names(out: &mut ListOf<Name>, alloc: Global, mapping: &Mapping) -> Result<(), Refusal>
-    ensures names { OnOk result
+fn push_table_names(
+    out: &mut ListOf<Name>,
+    alloc: Global,
+    mapping: &Mapping,
+) -> Result<(), AllocError>
+    ensures { OnOk result
         (out.new ≡ out.old ++ map (λ table. table.name) mapping.now.schema.tables) }
-    ensures cause { IfErr result (λ e. e ≡ Memory) }
 {
     for number in 0..table_count(mapping) {
         out.push(table_name(alloc, mapping, TableId(number))?)?;
@@ -137,10 +136,9 @@ fn push_source_names(
     alloc: Global,
     mapping: &Mapping,
     select: &Select,
-) -> Result<(), Refusal>
-    ensures names { OnOk result
+) -> Result<(), AllocError>
+    ensures { OnOk result
         (out.new ≡ out.old ++ map (name_of mapping.now.schema) (sources_of select.now)) }
-    ensures cause { IfErr result (λ e. e ≡ Memory) }
 {
     push_name(out, alloc, mapping, &select.first)?;
     for join in select.joins.as_slice() {
@@ -155,10 +153,9 @@ fn push_filter_names(
     alloc: Global,
     mapping: &Mapping,
     filter: &Option<Expr>,
-) -> Result<(), Refusal>
-    ensures names { OnOk result
+) -> Result<(), AllocError>
+    ensures { OnOk result
         (out.new ≡ out.old ++ spec.filter_names mapping.now.schema filter.now) }
-    ensures cause { IfErr result (λ e. e ≡ Memory) }
 {
     match filter {
         Some(e) => push_exists_names(out, alloc, mapping, e),
@@ -173,10 +170,9 @@ fn push_order_names(
     alloc: Global,
     mapping: &Mapping,
     order: &[(Expr, bool)],
-) -> Result<(), Refusal>
-    ensures names { OnOk result (out.new ≡ out.old
+) -> Result<(), AllocError>
+    ensures { OnOk result (out.new ≡ out.old
         ++ flat_map (λ key. spec.exists_names mapping.now.schema key.0) order.now) }
-    ensures cause { IfErr result (λ e. e ≡ Memory) }
 {
     for key in order {
         push_exists_names(out, alloc, mapping, &key.0)?;
@@ -189,10 +185,9 @@ pub fn taken_names(
     alloc: Global,
     mapping: &Mapping,
     select: &Select,
-) -> Result<ListOf<Name>, Refusal>
-    ensures names { IfOk result
+) -> Result<ListOf<Name>, AllocError>
+    ensures { IfOk result
         (λ names. names ≡ spec.taken_names mapping.now.schema select.now) }
-    ensures cause { IfErr result (λ e. e ≡ Memory) }
 {
     let mut names = ListOf::new(alloc);
     push_table_names(&mut names, alloc, mapping)?;
@@ -211,9 +206,8 @@ fn alias_of(alloc: Global, name: &str, number: u64) -> Result<Name, AllocError>
 
 /// The alias of a table's name with the least number from 1 on that is not taken.
 #[tactic(auto, using(crate::proofs::Lists::range_steps))]
-pub fn free_alias(alloc: Global, taken: &[Name], name: &Name) -> Result<Name, Refusal>
-    ensures alias { IfOk result (λ alias. alias ≡ spec.free_alias taken.now name.now) }
-    ensures cause { IfErr result (λ e. e ≡ Memory) }
+pub fn free_alias(alloc: Global, taken: &[Name], name: &Name) -> Result<Name, AllocError>
+    ensures { IfOk result (λ alias. alias ≡ spec.free_alias taken.now name.now) }
 {
     for below in 0..taken.len() {
         let alias = alias_of(alloc, name.get(), below as u64 + 1)?;

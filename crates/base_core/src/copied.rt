@@ -1,6 +1,6 @@
 //! Copies that equal what they copy.
 
-ghost use Rattle.std.specs.Prelude.{◌≡◌, Ok, IfOk};
+ghost use Rattle.std.specs.Prelude.{◌≡◌, Ok, IfOk, IsOk};
 
 use std::alloc::AllocError;
 
@@ -16,7 +16,8 @@ pub fn both<A: Drop, B: Drop>(
     a: Result<A, AllocError>,
     b: Result<B, AllocError>,
 ) -> Result<(A, B), AllocError>
-    ensures { IfOk result (λ it. (a ≡ Ok it.0) × (b ≡ Ok it.1)) }
+    ensures both { IfOk result (λ it. (a ≡ Ok it.0) × (b ≡ Ok it.1)) }
+    ensures whole { IsOk a → IsOk b → IsOk result }
 {
     Ok((a?, b?))
 }

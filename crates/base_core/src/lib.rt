@@ -1,8 +1,9 @@
-//! Values in their order, names, lists, the numbers of objects and tables, and one refusal for all layers.
+//! Values in their order, names, lists, the numbers of objects and tables, dialects, and one refusal for all layers.
 #![tactic(auto)]
 
 mod ascending;
 mod copied;
+mod dialect;
 mod ids;
 mod list;
 mod objects;
@@ -12,6 +13,7 @@ mod value;
 
 pub use ascending::is_above_all;
 pub use copied::{Copied, both};
+pub use dialect::Dialect;
 pub use ids::{AttrNo, ClassId, ColumnNo, ObjId, RelNo, TableId};
 pub use list::ListOf;
 pub use objects::{ObjList, ObjSet};

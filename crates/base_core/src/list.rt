@@ -1,10 +1,9 @@
 //! Lists that contracts see as lists.
 
-ghost use Rattle.std.specs.Prelude.{◌≡◌, ◌<◌, [], ◌∷◌, ◌++◌, length, slice_get, slice_set, IsTrue, IfOk, IfErr, OnOk, OnErr, ◌↔◌, Some, vec_len};
-ghost use Rattle.base_core.specs.declared.refusal.Refusal.TheVariants.{Memory};
+ghost use Rattle.std.specs.Prelude.{◌≡◌, ◌<◌, [], ◌∷◌, ◌++◌, length, slice_get, slice_set, IsTrue, IfOk, OnOk, OnErr, ◌↔◌, Some, vec_len};
 ghost use Rattle.std.specs.Option.{option_copied};
 
-use crate::{Copied, Refusal};
+use crate::Copied;
 use std::alloc::{AllocError, Global};
 use std::cmp::Ordering;
 use std::marker::Model;
@@ -104,11 +103,10 @@ impl<T> ListOf<T> {
 }
 
 impl<T: Drop> ListOf<T> {
-    /// The item goes to the end. The only refusal is `Memory`, and it leaves the list as it was.
-    pub fn push(&mut self, item: T) -> Result<(), Refusal>
+    /// The item goes to the end. Where memory runs out it leaves the list as it was.
+    pub fn push(&mut self, item: T) -> Result<(), AllocError>
         ensures ok { OnOk result (self.new ≡ self.old ++ item ∷ []) }
         ensures err { OnErr result (self.new ≡ self.old) }
-        ensures cause { IfErr result (λ e. e ≡ Memory) }
     {
         self.items.push(item)?;
         Ok(())

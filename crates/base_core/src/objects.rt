@@ -1,10 +1,9 @@
 //! Lists and sets of objects.
 
-ghost use Rattle.std.specs.Prelude.{◌≡◌, ◌<◌, ℕ, [], ◌∷◌, ◌++◌, ◌↔◌, IsTrue, length, slice_get, Some, OnOk, OnErr, IfErr};
-ghost use Rattle.base_core.specs.declared.refusal.Refusal.TheVariants.{Memory};
+ghost use Rattle.std.specs.Prelude.{◌≡◌, ◌<◌, ℕ, [], ◌∷◌, ◌++◌, ◌↔◌, IsTrue, length, slice_get, Some, OnOk, OnErr};
 
-use crate::{ListOf, ObjId, Refusal};
-use std::alloc::Global;
+use crate::{ListOf, ObjId};
+use std::alloc::{AllocError, Global};
 use std::marker::Model;
 
 /// A list of objects.
@@ -41,12 +40,11 @@ impl ObjSet {
     }
 
     #[tactic(auto, using(crate::proofs::Pushing::ascending_push))]
-    /// The object becomes the last member. The only refusal is `Memory`, and it leaves the set as it was.
-    pub fn push(&mut self, object: ObjId) -> Result<(), Refusal>
+    /// The object becomes the last member. Where memory runs out it leaves the set as it was.
+    pub fn push(&mut self, object: ObjId) -> Result<(), AllocError>
         requires { IsAbove self.old object }
         ensures ok { OnOk result (self.new ≡ self.old ++ object ∷ []) }
         ensures err { OnErr result (self.new ≡ self.old) }
-        ensures cause { IfErr result (λ e. e ≡ Memory) }
     {
         self.members.push(object)?;
         Ok(())

@@ -121,9 +121,9 @@ impl LineBuffer {
     }
 
     /// Takes what can be told of the pending bytes; none where more bytes are wanted.
-    fn take_line(&mut self) -> Result<Option<NextLine>, ReadStop>
+    fn take_line(&mut self) -> Result<Option<NextLine>, AllocError>
         ensures taken { IfOk result (λ answer. IsTaken self.old answer self.new) }
-        ensures stop { IfErr result (λ stop. (stop ≡ ReadStop.Memory) × (self.new ≡ self.old)) }
+        ensures stop { OnErr result (self.new ≡ self.old) }
     {
         let pending = &self.bytes[self.start..];
         match next_piece(pending, self.taken, self.ended) {

@@ -1,14 +1,13 @@
 //! A source and a sink in memory, with lists of the calls that fail.
 
-ghost use Rattle.std.specs.Prelude.{min, take, ◌≡◌, ◌≢◌, ◌<◌, ◌≤◌, ◌↔◌, ℕ, [], length, Err, IfErr, IfOk, IsOk, IsErr, IsErrOf, Contains, Some};
+ghost use Rattle.std.specs.Prelude.{min, take, ◌≡◌, ◌≢◌, ◌<◌, ◌≤◌, ◌↔◌, ℕ, [], length, Err, IfOk, IsOk, IsErr, IsErrOf, Contains, Some};
 ghost use Rattle.std.specs.Io.{ReadsAtMost, WritesAtMost};
 ghost use Rattle.std.specs.Io.KnownBytes.{ReadConsumes, WriteAppends};
 ghost use Rattle.base_core.specs.Counts.{Rose, one_more};
 ghost use Rattle.base_core.specs.declared.refusal.Refusal.TheVariants.{Memory};
 
 use crate::{ReadFault, Sink, SinkStop, Source};
-use base_core::Refusal;
-use std::alloc::Global;
+use std::alloc::{AllocError, Global};
 use std::marker::Model;
 
 /// A source of given bytes.
@@ -35,8 +34,7 @@ impl Model for MemSource {
 
 impl MemSource {
     /// A source of these bytes; its reads of these numbers, from 1, fail. The only refusal is that memory ran out.
-    pub fn new(alloc: Global, bytes: &[u8], failing: &[u64]) -> Result<MemSource, Refusal>
-        ensures cause { IfErr result (λ e. e ≡ Memory) }
+    pub fn new(alloc: Global, bytes: &[u8], failing: &[u64]) -> Result<MemSource, AllocError>
         ensures made { IfOk result
             (λ s. s ≡ record { left = bytes.now; calls = 0; failing = failing.now; faults = 0 }) }
     {
@@ -107,8 +105,7 @@ impl Model for MemSink {
 
 impl MemSink {
     /// An empty sink; its writes of these numbers, from 1, fail. The only refusal is that memory ran out.
-    pub fn new(alloc: Global, failing: &[u64]) -> Result<MemSink, Refusal>
-        ensures cause { IfErr result (λ e. e ≡ Memory) }
+    pub fn new(alloc: Global, failing: &[u64]) -> Result<MemSink, AllocError>
         ensures made { IfOk result
             (λ s. s ≡ record { written = []; calls = 0; failing = failing.now; faults = 0 }) }
     {

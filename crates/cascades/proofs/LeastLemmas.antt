@@ -5,7 +5,6 @@ use Rattle.std.specs.List.{All, filter, list_all, range_with_len}
 use Rattle.std.proofs.lemmas.Bool.{and_from, and_parts, cases_eq, eq-eqb, eqb-true, or_left, or_right}
 use Rattle.std.proofs.lemmas.List.Folds.{list_all-append, list_all-map}
 use Rattle.base_core.specs.declared.ids.ObjId.{ObjId}
-use Rattle.base_core.specs.declared.refusal.Refusal.{Refusal}
 use Rattle.base_core.specs.Ascending.{IsAscending, IsBelow}
 use Rattle.class_mapping.specs.Mapped.{Mapped}
 use Rattle.object_arena.specs.Graph.{Graph, IsObject}
@@ -167,6 +166,6 @@ closure_is flag mapped graph object xs is = one_list xs (filter in_all all) is.a
         (and_from (is_among xs object) (is_closed flag mapped graph xs) is.has
         (from_each (λ it. list_all (is_among xs) (linked_objects flag mapped graph it)) xs (λ one inside. is.closed one inside)))
 
-pub if_closure : (flag : Flag) (mapped : Mapped) (graph : Graph) (object : ObjId) (r : Result (List ObjId) Refusal) → IfOk r (IsClosure flag mapped graph object) → IfOk r (λ set. set ≡ closure_of flag mapped graph object)
+pub if_closure : {E : Type 0} (flag : Flag) (mapped : Mapped) (graph : Graph) (object : ObjId) (r : Result (List ObjId) E) → IfOk r (IsClosure flag mapped graph object) → IfOk r (λ set. set ≡ closure_of flag mapped graph object)
 if_closure flag mapped graph object (Ok xs) is = closure_is flag mapped graph object xs is
 if_closure flag mapped graph object (Err e) is = tt

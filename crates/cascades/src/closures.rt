@@ -1,7 +1,6 @@
 //! The four closures of an object.
 
-ghost use Rattle.std.specs.Prelude.{◌≡◌, ◌++◌, true, IfOk, IfErr, OnOk};
-ghost use Rattle.base_core.specs.declared.refusal.Refusal.TheVariants.{Memory};
+ghost use Rattle.std.specs.Prelude.{◌≡◌, ◌++◌, IfOk, OnOk};
 ghost use Rattle.object_arena.specs.Graph.{IsObject};
 ghost use Rattle.object_arena.specs.Fit.{IsFit};
 ghost use Rattle.cascades.specs.declared.closures.Flag.TheVariants.{SaveUpdate, RefreshExpire, Expunge, Delete};
@@ -9,11 +8,11 @@ ghost use Rattle.cascades.specs.Closures as spec;
 
 use crate::marks::Marks;
 use crate::walk::Walk;
-use base_core::{ListOf, ObjId, ObjList, ObjSet, Refusal};
+use base_core::{ListOf, ObjId, ObjList, ObjSet};
 use class_mapping::{Cascade, Mapping, Relation};
 use object_arena::{Arena, Link};
 use object_parts::add_ends;
-use std::alloc::Global;
+use std::alloc::{AllocError, Global};
 
 /// In a graph of so many objects a walk has a mark for each.
 const MOST_MARKED: u32 = 8192;
@@ -33,14 +32,12 @@ pub fn save_closure(
     arena: &Arena,
     mapping: &Mapping,
     object: ObjId,
-) -> Result<ObjSet, Refusal>
-    requires configured { mapping.now.configured ≡ true }
+) -> Result<ObjSet, AllocError>
     requires fit { IsFit mapping.now arena.now }
     requires object { IsObject arena.now object }
     ensures closure { IfOk result (spec.IsClosure SaveUpdate mapping.now arena.now object) }
     ensures is { IfOk result (λ set. set
         ≡ spec.closure_of SaveUpdate mapping.now arena.now object) }
-    ensures cause { IfErr result (λ e. e ≡ Memory) }
 {
     closure(alloc, arena, mapping, Flag::SaveUpdate, object)
 }
@@ -51,14 +48,12 @@ pub fn delete_closure(
     arena: &Arena,
     mapping: &Mapping,
     object: ObjId,
-) -> Result<ObjSet, Refusal>
-    requires configured { mapping.now.configured ≡ true }
+) -> Result<ObjSet, AllocError>
     requires fit { IsFit mapping.now arena.now }
     requires object { IsObject arena.now object }
     ensures closure { IfOk result (spec.IsClosure Delete mapping.now arena.now object) }
     ensures is { IfOk result (λ set. set
         ≡ spec.closure_of Delete mapping.now arena.now object) }
-    ensures cause { IfErr result (λ e. e ≡ Memory) }
 {
     closure(alloc, arena, mapping, Flag::Delete, object)
 }
@@ -69,14 +64,12 @@ pub fn expunge_closure(
     arena: &Arena,
     mapping: &Mapping,
     object: ObjId,
-) -> Result<ObjSet, Refusal>
-    requires configured { mapping.now.configured ≡ true }
+) -> Result<ObjSet, AllocError>
     requires fit { IsFit mapping.now arena.now }
     requires object { IsObject arena.now object }
     ensures closure { IfOk result (spec.IsClosure Expunge mapping.now arena.now object) }
     ensures is { IfOk result (λ set. set
         ≡ spec.closure_of Expunge mapping.now arena.now object) }
-    ensures cause { IfErr result (λ e. e ≡ Memory) }
 {
     closure(alloc, arena, mapping, Flag::Expunge, object)
 }
@@ -87,31 +80,27 @@ pub fn expire_closure(
     arena: &Arena,
     mapping: &Mapping,
     object: ObjId,
-) -> Result<ObjSet, Refusal>
-    requires configured { mapping.now.configured ≡ true }
+) -> Result<ObjSet, AllocError>
     requires fit { IsFit mapping.now arena.now }
     requires object { IsObject arena.now object }
     ensures closure { IfOk result (spec.IsClosure RefreshExpire mapping.now arena.now object) }
     ensures is { IfOk result (λ set. set
         ≡ spec.closure_of RefreshExpire mapping.now arena.now object) }
-    ensures cause { IfErr result (λ e. e ≡ Memory) }
 {
     closure(alloc, arena, mapping, Flag::RefreshExpire, object)
 }
 
-/// The least closed set that has an object. The only refusal is `Memory`.
+/// The least closed set that has an object.
 fn closure(
     alloc: Global,
     arena: &Arena,
     mapping: &Mapping,
     flag: Flag,
     object: ObjId,
-) -> Result<ObjSet, Refusal>
-    requires configured { mapping.now.configured ≡ true }
+) -> Result<ObjSet, AllocError>
     requires fit { IsFit mapping.now arena.now }
     requires object { IsObject arena.now object }
-    ensures closure { IfOk result (spec.IsClosure flag mapping.now arena.now object) }
-    ensures cause { IfErr result (λ e. e ≡ Memory) }
+    ensures { IfOk result (spec.IsClosure flag mapping.now arena.now object) }
 {
     if arena.count() <= MOST_MARKED {
         return closure_marked(alloc, arena, mapping, flag, object);
@@ -126,12 +115,10 @@ fn closure_marked(
     mapping: &Mapping,
     flag: Flag,
     object: ObjId,
-) -> Result<ObjSet, Refusal>
-    requires configured { mapping.now.configured ≡ true }
+) -> Result<ObjSet, AllocError>
     requires fit { IsFit mapping.now arena.now }
     requires object { IsObject arena.now object }
-    ensures closure { IfOk result (spec.IsClosure flag mapping.now arena.now object) }
-    ensures cause { IfErr result (λ e. e ≡ Memory) }
+    ensures { IfOk result (spec.IsClosure flag mapping.now arena.now object) }
 {
     let mut walk = Marks::new(alloc, arena.count())?;
     let mut ends = ListOf::new(alloc);
@@ -151,12 +138,10 @@ fn closure_kept(
     mapping: &Mapping,
     flag: Flag,
     object: ObjId,
-) -> Result<ObjSet, Refusal>
-    requires configured { mapping.now.configured ≡ true }
+) -> Result<ObjSet, AllocError>
     requires fit { IsFit mapping.now arena.now }
     requires object { IsObject arena.now object }
-    ensures closure { IfOk result (spec.IsClosure flag mapping.now arena.now object) }
-    ensures cause { IfErr result (λ e. e ≡ Memory) }
+    ensures { IfOk result (spec.IsClosure flag mapping.now arena.now object) }
 {
     let mut walk = Walk::new(alloc);
     let mut ends = ListOf::new(alloc);
@@ -169,7 +154,7 @@ fn closure_kept(
     walk.into_set(alloc)
 }
 
-/// The objects to which an object is linked along relationships with the flag go to the end. The only refusal is `Memory`.
+/// The objects to which an object is linked along relationships with the flag go to the end.
 #[tactic(auto, unfolding(crate::specs::Closures::linked_objects))]
 fn add_linked(
     ends: &mut ObjList,
@@ -177,28 +162,25 @@ fn add_linked(
     mapping: &Mapping,
     flag: Flag,
     object: ObjId,
-) -> Result<(), Refusal>
-    requires configured { mapping.now.configured ≡ true }
+) -> Result<(), AllocError>
     requires fit { IsFit mapping.now arena.now }
     requires object { IsObject arena.now object }
-    ensures linked { OnOk result
+    ensures { OnOk result
         (ends.new ≡ ends.old ++ spec.linked_objects flag mapping.now arena.now object) }
-    ensures cause { IfErr result (λ e. e ≡ Memory) }
 {
     let record = arena.object(object);
     let relations = mapping.relations(record.class);
     add_along(ends, flag, relations, record.links.as_slice())
 }
 
-/// What the links hold whose relationships have the flag goes to the end. The only refusal is `Memory`.
+/// What the links hold whose relationships have the flag goes to the end.
 fn add_along(
     ends: &mut ObjList,
     flag: Flag,
     relations: &[Relation],
     links: &[Link],
-) -> Result<(), Refusal>
-    ensures ends { OnOk result (ends.new ≡ ends.old ++ spec.ends_along flag relations.now links.now) }
-    ensures cause { IfErr result (λ e. e ≡ Memory) }
+) -> Result<(), AllocError>
+    ensures { OnOk result (ends.new ≡ ends.old ++ spec.ends_along flag relations.now links.now) }
 {
     for place in 0..relations.len().min(links.len()) {
         let goes_on = has_flag(flag, &relations[place].cascade);

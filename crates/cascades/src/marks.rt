@@ -1,12 +1,11 @@
 //! A walk along links that has a mark for each object.
 
-ghost use Rattle.std.specs.Prelude.{◌≡◌, ◌+◌, ◌<◌, ◌≤◌, ◌^◌, [], ◌∷◌, false, length, replicate, IfOk, IfErr, OnOk};
+ghost use Rattle.std.specs.Prelude.{◌≡◌, ◌+◌, ◌<◌, ◌≤◌, ◌^◌, [], ◌∷◌, false, length, replicate, IfOk, OnOk};
 ghost use Rattle.std.specs.List.{All};
-ghost use Rattle.base_core.specs.declared.refusal.Refusal.TheVariants.{Memory};
 ghost use Rattle.cascades.specs.Walks.{Comes, count_left, is_marked, marked_from};
 
-use base_core::{ObjId, ObjSet, Refusal};
-use std::alloc::Global;
+use base_core::{ObjId, ObjSet};
+use std::alloc::{AllocError, Global};
 
 /// A mark for each number, on where the walk has come to its object, and the objects whose links it has still to follow.
 #[derive(Drop)]
@@ -16,11 +15,10 @@ pub(crate) struct Marks {
 }
 
 impl Marks {
-    /// A walk among so many objects that has come nowhere yet. The only refusal is `Memory`.
-    pub(crate) fn new(alloc: Global, count: u32) -> Result<Marks, Refusal>
+    /// A walk among so many objects that has come nowhere yet.
+    pub(crate) fn new(alloc: Global, count: u32) -> Result<Marks, AllocError>
         ensures marks { IfOk result (λ walk. walk.marks.items ≡ replicate (count + 1) false) }
         ensures waiting { IfOk result (λ walk. walk.waiting.items ≡ []) }
-        ensures cause { IfErr result (λ e. e ≡ Memory) }
     {
         let marks = vec![in alloc; false; count as usize + 1]?;
         Ok(Marks {
@@ -29,8 +27,8 @@ impl Marks {
         })
     }
 
-    /// The walk comes to an object. Where it comes there first, its links are to be followed. The only refusal is `Memory`.
-    pub(crate) fn come_to(&mut self, object: ObjId) -> Result<(), Refusal>
+    /// The walk comes to an object. Where it comes there first, its links are to be followed.
+    pub(crate) fn come_to(&mut self, object: ObjId) -> Result<(), AllocError>
         requires { object.0 < length self.old.marks.items }
         ensures ok { OnOk result
             (Comes (is_marked self.old.marks.items) (is_marked self.new.marks.items)
@@ -39,7 +37,6 @@ impl Marks {
             (count_left self.new.marks.items + length self.new.waiting.items
             ≡ count_left self.old.marks.items + length self.old.waiting.items) }
         ensures long { OnOk result (length self.new.marks.items ≡ length self.old.marks.items) }
-        ensures cause { IfErr result (λ e. e ≡ Memory) }
     {
         let number = object.0 as usize;
         if self.marks[number] {
@@ -50,8 +47,8 @@ impl Marks {
         Ok(())
     }
 
-    /// The walk comes to objects, one after another. The only refusal is `Memory`.
-    pub(crate) fn come_to_all(&mut self, objects: &[ObjId]) -> Result<(), Refusal>
+    /// The walk comes to objects, one after another.
+    pub(crate) fn come_to_all(&mut self, objects: &[ObjId]) -> Result<(), AllocError>
         requires { All (λ object. object.0 < length self.old.marks.items) objects.now }
         ensures ok { OnOk result
             (Comes (is_marked self.old.marks.items) (is_marked self.new.marks.items)
@@ -60,7 +57,6 @@ impl Marks {
             (count_left self.new.marks.items + length self.new.waiting.items
             ≡ count_left self.old.marks.items + length self.old.waiting.items) }
         ensures long { OnOk result (length self.new.marks.items ≡ length self.old.marks.items) }
-        ensures cause { IfErr result (λ e. e ≡ Memory) }
     {
         for object in objects {
             self.come_to(*object)?;
@@ -68,11 +64,10 @@ impl Marks {
         Ok(())
     }
 
-    /// The objects that the walk has come to. The only refusal is `Memory`.
-    pub(crate) fn into_set(self, alloc: Global) -> Result<ObjSet, Refusal>
+    /// The objects that the walk has come to.
+    pub(crate) fn into_set(self, alloc: Global) -> Result<ObjSet, AllocError>
         requires { length self.marks.items ≤ 2 ^ 32 }
-        ensures set { IfOk result (λ set. set ≡ marked_from 0 self.marks.items) }
-        ensures cause { IfErr result (λ e. e ≡ Memory) }
+        ensures { IfOk result (λ set. set ≡ marked_from 0 self.marks.items) }
     {
         let mut set = ObjSet::new(alloc);
         for number in 0..self.marks.len() {

@@ -1,13 +1,12 @@
 //! A walk along links that keeps the numbers of the objects to which it came in a set.
 
-ghost use Rattle.std.specs.Prelude.{◌≡◌, ◌+◌, [], ◌∷◌, length, map, IfOk, IfErr, OnOk};
+ghost use Rattle.std.specs.Prelude.{◌≡◌, ◌+◌, [], ◌∷◌, length, map, IfOk, OnOk};
 ghost use Rattle.std.specs.Ordering.{nat_cmp};
 ghost use Rattle.std.specs.List.Sorted.{IsStrictlySortedBy};
-ghost use Rattle.base_core.specs.declared.refusal.Refusal.TheVariants.{Memory};
 ghost use Rattle.cascades.specs.Walks.{Comes, id_of_number, is_in};
 
-use base_core::{ObjId, ObjSet, Refusal};
-use std::alloc::Global;
+use base_core::{ObjId, ObjSet};
+use std::alloc::{AllocError, Global};
 use std::collections::BTreeSet;
 
 /// The numbers of the objects that a walk has come to, and the objects whose links it has still to follow.
@@ -29,8 +28,8 @@ impl Walk {
         }
     }
 
-    /// The walk comes to an object. Where it comes there first, its links are to be followed. The only refusal is `Memory`.
-    pub(crate) fn come_to(&mut self, object: ObjId) -> Result<(), Refusal>
+    /// The walk comes to an object. Where it comes there first, its links are to be followed.
+    pub(crate) fn come_to(&mut self, object: ObjId) -> Result<(), AllocError>
         ensures ok { OnOk result (Comes (is_in self.old.reached.keys)
             (is_in self.new.reached.keys) self.old.waiting.items self.new.waiting.items
             (object ∷ [])) }
@@ -38,7 +37,6 @@ impl Walk {
             (length self.new.reached.keys + length self.old.waiting.items
             ≡ length self.old.reached.keys + length self.new.waiting.items) }
         ensures ascending { OnOk result (IsStrictlySortedBy nat_cmp self.new.reached.keys) }
-        ensures cause { IfErr result (λ e. e ≡ Memory) }
     {
         if !self.reached.insert(object.0)? {
             return Ok(());
@@ -47,8 +45,8 @@ impl Walk {
         Ok(())
     }
 
-    /// The walk comes to objects, one after another. The only refusal is `Memory`.
-    pub(crate) fn come_to_all(&mut self, objects: &[ObjId]) -> Result<(), Refusal>
+    /// The walk comes to objects, one after another.
+    pub(crate) fn come_to_all(&mut self, objects: &[ObjId]) -> Result<(), AllocError>
         requires { IsStrictlySortedBy nat_cmp self.old.reached.keys }
         ensures ok { OnOk result (Comes (is_in self.old.reached.keys)
             (is_in self.new.reached.keys) self.old.waiting.items self.new.waiting.items
@@ -57,7 +55,6 @@ impl Walk {
             (length self.new.reached.keys + length self.old.waiting.items
             ≡ length self.old.reached.keys + length self.new.waiting.items) }
         ensures ascending { OnOk result (IsStrictlySortedBy nat_cmp self.new.reached.keys) }
-        ensures cause { IfErr result (λ e. e ≡ Memory) }
     {
         for object in objects {
             self.come_to(*object)?;
@@ -65,11 +62,10 @@ impl Walk {
         Ok(())
     }
 
-    /// The objects that the walk has come to. The only refusal is `Memory`.
-    pub(crate) fn into_set(self, alloc: Global) -> Result<ObjSet, Refusal>
+    /// The objects that the walk has come to.
+    pub(crate) fn into_set(self, alloc: Global) -> Result<ObjSet, AllocError>
         requires { IsStrictlySortedBy nat_cmp self.reached.keys }
-        ensures set { IfOk result (λ set. set ≡ map id_of_number self.reached.keys) }
-        ensures cause { IfErr result (λ e. e ≡ Memory) }
+        ensures { IfOk result (λ set. set ≡ map id_of_number self.reached.keys) }
     {
         let mut set = ObjSet::new(alloc);
         for number in self.reached {

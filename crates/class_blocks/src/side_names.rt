@@ -1,13 +1,12 @@
 //! The names that declared relationships give to classes.
 
-ghost use Rattle.std.specs.Prelude.{◌≡◌, ◌&&◌, ◌++◌, IfErr, IfOk, OnOk, filter, map};
+ghost use Rattle.std.specs.Prelude.{◌≡◌, ◌&&◌, ◌++◌, IfOk, OnOk, filter, map};
 ghost use Rattle.std.specs.List.{flat_map};
-ghost use Rattle.base_core.specs.declared.refusal.Refusal.TheVariants.{Memory};
 ghost use Rattle.class_blocks.specs.Sides.{is_own, makes_back, names_at, names_on};
 
 use crate::side::{Side, is_class};
-use base_core::{ClassId, Copied, ListOf, Name, Refusal};
-use std::alloc::Global;
+use base_core::{ClassId, Copied, ListOf, Name};
+use std::alloc::{AllocError, Global};
 
 /// Whether a relationship is of a class's own block.
 pub fn is_own(class: ClassId, side: &Side) -> bool
@@ -25,10 +24,13 @@ pub fn makes_back(class: ClassId, side: &Side) -> bool
 
 #[tactic(auto, using(crate::proofs::Steps::steps))]
 /// The names of a class's own relationships go behind others.
-fn push_own_names(names: &mut ListOf<Name>, sides: &[Side], class: ClassId) -> Result<(), Refusal>
-    ensures ok { OnOk result (names.new
+fn push_own_names(
+    names: &mut ListOf<Name>,
+    sides: &[Side],
+    class: ClassId,
+) -> Result<(), AllocError>
+    ensures { OnOk result (names.new
         ≡ names.old ++ map (λ side. side.spec.name) (filter (is_own class) sides.now)) }
-    ensures err { IfErr result (λ e. e ≡ Memory) }
 {
     for side in sides {
         if is_own(class, side) {
@@ -40,10 +42,13 @@ fn push_own_names(names: &mut ListOf<Name>, sides: &[Side], class: ClassId) -> R
 
 #[tactic(auto, using(crate::proofs::Steps::steps))]
 /// The names of a class's backrefs go behind others.
-fn push_back_names(names: &mut ListOf<Name>, sides: &[Side], class: ClassId) -> Result<(), Refusal>
-    ensures ok { OnOk result (names.new
+fn push_back_names(
+    names: &mut ListOf<Name>,
+    sides: &[Side],
+    class: ClassId,
+) -> Result<(), AllocError>
+    ensures { OnOk result (names.new
         ≡ names.old ++ map (λ side. side.spec.partner) (filter (makes_back class) sides.now)) }
-    ensures err { IfErr result (λ e. e ≡ Memory) }
 {
     for side in sides {
         if makes_back(class, side) {
@@ -54,20 +59,17 @@ fn push_back_names(names: &mut ListOf<Name>, sides: &[Side], class: ClassId) -> 
 }
 
 /// The names of the relationships of a class's own block, and then of its backrefs, go behind others.
-fn push_names(names: &mut ListOf<Name>, sides: &[Side], class: ClassId) -> Result<(), Refusal>
-    ensures ok { OnOk result (names.new ≡ names.old ++ names_at sides.now class) }
-    ensures err { IfErr result (λ e. e ≡ Memory) }
+fn push_names(names: &mut ListOf<Name>, sides: &[Side], class: ClassId) -> Result<(), AllocError>
+    ensures { OnOk result (names.new ≡ names.old ++ names_at sides.now class) }
 {
     push_own_names(names, sides, class)?;
     push_back_names(names, sides, class)
 }
 
 #[tactic(auto, using(crate::proofs::Steps::steps))]
-/// The names of the relationships of the class of a line: of each class its own, and then its backrefs. The only refusal is
-/// `Memory`.
-pub fn names_on(alloc: Global, sides: &[Side], line: &[ClassId]) -> Result<ListOf<Name>, Refusal>
-    ensures ok { IfOk result (λ names. names ≡ names_on sides.now line.now) }
-    ensures err { IfErr result (λ e. e ≡ Memory) }
+/// The names of the relationships of the class of a line: of each class its own, and then its backrefs.
+pub fn names_on(alloc: Global, sides: &[Side], line: &[ClassId]) -> Result<ListOf<Name>, AllocError>
+    ensures { IfOk result (λ names. names ≡ names_on sides.now line.now) }
 {
     let mut names = ListOf::new(alloc);
     for class in line {

@@ -1,12 +1,11 @@
 //! The validators of a class and of those that it extends.
 
-ghost use Rattle.std.specs.Prelude.{◌≡◌, ◌++◌, IfErr, IfOk, OnOk};
-ghost use Rattle.base_core.specs.declared.refusal.Refusal.TheVariants.{Memory};
+ghost use Rattle.std.specs.Prelude.{◌≡◌, ◌++◌, IfOk, OnOk};
 ghost use Rattle.class_blocks.specs.Validators.{all_validators, validators_at, validators_on};
 
-use base_core::{ClassId, Copied, ListOf, Name, Refusal};
+use base_core::{ClassId, Copied, ListOf, Name};
 use class_types::ClassSpec;
-use std::alloc::Global;
+use std::alloc::{AllocError, Global};
 
 /// The validators of a class's own block.
 fn validators_at(specs: &[ClassSpec], class: usize) -> &[(Name, Name)]
@@ -19,9 +18,8 @@ fn validators_at(specs: &[ClassSpec], class: usize) -> &[(Name, Name)]
 }
 
 /// Validators go behind others.
-fn push_validators(all: &mut ListOf<(Name, Name)>, found: &[(Name, Name)]) -> Result<(), Refusal>
-    ensures ok { OnOk result (all.new ≡ all.old ++ found.now) }
-    ensures err { IfErr result (λ e. e ≡ Memory) }
+fn push_validators(all: &mut ListOf<(Name, Name)>, found: &[(Name, Name)]) -> Result<(), AllocError>
+    ensures { OnOk result (all.new ≡ all.old ++ found.now) }
 {
     for validator in found {
         all.push(validator.copied()?)?;
@@ -35,9 +33,8 @@ fn validators_on(
     alloc: Global,
     specs: &[ClassSpec],
     line: &[ClassId],
-) -> Result<ListOf<(Name, Name)>, Refusal>
-    ensures ok { IfOk result (λ all. all ≡ validators_on specs.now line.now) }
-    ensures err { IfErr result (λ e. e ≡ Memory) }
+) -> Result<ListOf<(Name, Name)>, AllocError>
+    ensures { IfOk result (λ all. all ≡ validators_on specs.now line.now) }
 {
     let mut all = ListOf::new(alloc);
     for class in line {
@@ -46,14 +43,13 @@ fn validators_on(
     Ok(all)
 }
 
-/// The validators of each class, where the lines of all classes are given. The only refusal is `Memory`.
+/// The validators of each class, where the lines of all classes are given.
 pub fn all_validators(
     alloc: Global,
     specs: &[ClassSpec],
     lines: &[ListOf<ClassId>],
-) -> Result<ListOf<ListOf<(Name, Name)>>, Refusal>
-    ensures ok { IfOk result (λ all. all ≡ all_validators specs.now lines.now) }
-    ensures err { IfErr result (λ e. e ≡ Memory) }
+) -> Result<ListOf<ListOf<(Name, Name)>>, AllocError>
+    ensures { IfOk result (λ all. all ≡ all_validators specs.now lines.now) }
 {
     let mut all = ListOf::new(alloc);
     for line in lines {

@@ -1,8 +1,7 @@
 //! The declared classes.
 
-ghost use Rattle.std.specs.Prelude.{◌≡◌, ◌≤◌, ◌++◌, [], ◌∷◌, IfErr, IfOk, OnErr, OnOk, length, take};
+ghost use Rattle.std.specs.Prelude.{◌≡◌, ◌≤◌, ◌++◌, [], ◌∷◌, IfOk, OnErr, OnOk, length, take};
 ghost use Rattle.base_core.specs.Answers.{Takes};
-ghost use Rattle.base_core.specs.declared.refusal.Refusal.TheVariants.{Memory};
 ghost use Rattle.class_types.specs.Shown.{rules_of};
 ghost use Rattle.class_layouts.specs.Declaring.{declare};
 ghost use Rattle.class_layouts.specs.Hierarchy.{new_line, with_class};
@@ -13,7 +12,7 @@ use crate::lookup::{line_at, place_named};
 use base_core::{ClassId, ListOf, Refusal};
 use class_types::{ClassSpec, Hooks};
 use schema_core::Schema;
-use std::alloc::Global;
+use std::alloc::{AllocError, Global};
 use std::mem;
 
 /// The declared classes in order of number, and of each its line: the classes from its root down to itself.
@@ -24,9 +23,12 @@ pub struct Classes {
 }
 
 /// The line of a class that is declared behind the others.
-fn new_line(alloc: Global, classes: &Classes, spec: &ClassSpec) -> Result<ListOf<ClassId>, Refusal>
-    ensures ok { IfOk result (λ line. line ≡ new_line classes.now spec.now) }
-    ensures err { IfErr result (λ e. e ≡ Memory) }
+fn new_line(
+    alloc: Global,
+    classes: &Classes,
+    spec: &ClassSpec,
+) -> Result<ListOf<ClassId>, AllocError>
+    ensures { IfOk result (λ line. line ≡ new_line classes.now spec.now) }
 {
     let base = place_named(classes.specs.as_slice(), &spec.base);
     let mut line = ListOf::from_vec(line_at(classes, base).to_vec(alloc)?);
@@ -43,13 +45,13 @@ fn keep_first<T: Drop>(alloc: Global, list: &mut ListOf<T>, count: usize)
     *list = ListOf::from_vec(items);
 }
 
-/// A class goes behind the others, with its line. The only refusal is `Memory`, and it leaves the classes as they were.
+/// A class goes behind the others, with its line. Where memory runs out it leaves the classes as they were.
 fn push_class(
     alloc: Global,
     classes: &mut Classes,
     spec: ClassSpec,
     line: ListOf<ClassId>,
-) -> Result<(), Refusal>
+) -> Result<(), AllocError>
     ensures ok { OnOk result (classes.new
         ≡ record {
           specs = classes.old.specs ++ spec ∷ [];
@@ -57,7 +59,6 @@ fn push_class(
               ++ line ∷ [];
         }) }
     ensures err { OnErr result (classes.new ≡ classes.old) }
-    ensures cause { IfErr result (λ e. e ≡ Memory) }
 {
     let count = classes.lines.len();
     classes.lines.push(line)?;
@@ -105,9 +106,9 @@ pub fn declare(
             pop_class(alloc, classes, count);
             Err(Refusal::ArgumentError(fault))
         }
-        Err(refusal) => {
+        Err(full) => {
             pop_class(alloc, classes, count);
-            Err(refusal)
+            Err(full.into())
         }
     }
 }

@@ -1,15 +1,14 @@
 //! The tables of a class.
 
-ghost use Rattle.std.specs.Prelude.{◌≡◌, IfOk, IfErr, None, fold};
-ghost use Rattle.base_core.specs.declared.refusal.Refusal.TheVariants.{Memory};
+ghost use Rattle.std.specs.Prelude.{◌≡◌, IfOk, None, fold};
 ghost use Rattle.class_layouts.specs.Columns.{later_of, lives_in, own_table, tables_on};
 ghost use Rattle.class_layouts.specs.Faults.{foreigns_in, root_table_on};
 
 use crate::Classes;
-use base_core::{ClassId, ListOf, Refusal, TableId};
+use base_core::{ClassId, ListOf, TableId};
 use class_blocks::{named_table, table_at};
 use schema_core::{ForeignSpec, Schema};
-use std::alloc::Global;
+use std::alloc::{AllocError, Global};
 
 /// The foreign keys of a table.
 pub fn foreigns_of(schema: &Schema, table: TableId) -> &[ForeignSpec]
@@ -66,9 +65,8 @@ pub fn tables_on(
     schema: &Schema,
     classes: &Classes,
     line: &[ClassId],
-) -> Result<ListOf<TableId>, Refusal>
-    ensures ok { IfOk result (λ tables. tables ≡ tables_on schema.now.tables classes.now line.now) }
-    ensures err { IfErr result (λ e. e ≡ Memory) }
+) -> Result<ListOf<TableId>, AllocError>
+    ensures { IfOk result (λ tables. tables ≡ tables_on schema.now.tables classes.now line.now) }
 {
     let mut tables = ListOf::new(alloc);
     for class in line {

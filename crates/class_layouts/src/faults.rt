@@ -1,9 +1,8 @@
 //! Why a block of a class is refused.
 
-ghost use Rattle.std.specs.Prelude.{◌≡◌, ◌&&◌, ◌++◌, IfErr, IfOk, OnOk, find, length, map, take, ◌<◌, Some};
+ghost use Rattle.std.specs.Prelude.{◌≡◌, ◌&&◌, ◌++◌, IfOk, OnOk, find, length, map, take, ◌<◌, Some};
 ghost use Rattle.std.specs.Option.{option_and_then, option_copied};
 ghost use Rattle.std.specs.List.{enumerate_from, flat_map, list_any};
-ghost use Rattle.base_core.specs.declared.refusal.Refusal.TheVariants.{Memory};
 ghost use Rattle.schema_core.specs.Catalog.{has_name, same_name};
 ghost use Rattle.schema_core.specs.Tables.{kind_of_value};
 ghost use Rattle.schema_core.specs.Declaration.{some_two};
@@ -16,22 +15,24 @@ use crate::Classes;
 use crate::columns::{foreigns_of, own_table, tables_on};
 use crate::layout::attributes_on;
 use crate::lookup::{line_of, relations_at, root_in, same_root};
-use base_core::{ArgumentKind, ClassId, Copied, Kind, ListOf, Name, Refusal, TableId, Value};
+use base_core::{ArgumentKind, ClassId, Copied, Kind, ListOf, Name, TableId, Value};
 use class_blocks::{
     cascade_or_default, columns_of, has_name, is_declared, is_named, maps_name, named_table,
     shares_identity,
 };
 use class_types::{Attribute, ClassSpec, Hooks, RelationSpec};
 use schema_core::{ColumnSpec, ForeignSpec, Schema, kind_of, kind_of_value, same_kind};
-use std::alloc::Global;
+use std::alloc::{AllocError, Global};
 
 // ---- DuplicateName
 
 /// The names of relationships go behind others.
-fn push_relation_names(names: &mut ListOf<Name>, relations: &[RelationSpec]) -> Result<(), Refusal>
-    ensures ok { OnOk result (names.new
+fn push_relation_names(
+    names: &mut ListOf<Name>,
+    relations: &[RelationSpec],
+) -> Result<(), AllocError>
+    ensures { OnOk result (names.new
         ≡ names.old ++ map (λ relation. relation.name) relations.now) }
-    ensures err { IfErr result (λ e. e ≡ Memory) }
 {
     for relation in relations {
         names.push(relation.name.copied()?)?;
@@ -40,10 +41,12 @@ fn push_relation_names(names: &mut ListOf<Name>, relations: &[RelationSpec]) -> 
 }
 
 /// The names of attributes go behind others.
-fn push_attribute_names(names: &mut ListOf<Name>, attributes: &[Attribute]) -> Result<(), Refusal>
-    ensures ok { OnOk result (names.new
+fn push_attribute_names(
+    names: &mut ListOf<Name>,
+    attributes: &[Attribute],
+) -> Result<(), AllocError>
+    ensures { OnOk result (names.new
         ≡ names.old ++ map (λ attribute. attribute.name) attributes.now) }
-    ensures err { IfErr result (λ e. e ≡ Memory) }
 {
     for attribute in attributes {
         names.push(attribute.name.copied()?)?;
@@ -57,11 +60,10 @@ fn relation_names(
     alloc: Global,
     classes: &Classes,
     line: &[ClassId],
-) -> Result<ListOf<Name>, Refusal>
-    ensures ok { IfOk result (λ names. names
+) -> Result<ListOf<Name>, AllocError>
+    ensures { IfOk result (λ names. names
         ≡ flat_map (λ class. map
         (λ relation. relation.name) (relations_at classes.now class.0)) line.now) }
-    ensures err { IfErr result (λ e. e ≡ Memory) }
 {
     let mut names = ListOf::new(alloc);
     for class in line {
@@ -77,10 +79,9 @@ fn names_on(
     classes: &Classes,
     line: &[ClassId],
     attributes: &[Attribute],
-) -> Result<ListOf<Name>, Refusal>
+) -> Result<ListOf<Name>, AllocError>
     requires { attributes.now ≡ attributes_on schema.now.tables classes.now line.now }
-    ensures ok { IfOk result (λ names. names ≡ names_on schema.now.tables classes.now line.now) }
-    ensures err { IfErr result (λ e. e ≡ Memory) }
+    ensures { IfOk result (λ names. names ≡ names_on schema.now.tables classes.now line.now) }
 {
     let mut names = relation_names(alloc, classes, line)?;
     push_attribute_names(&mut names, attributes)?;
@@ -364,11 +365,10 @@ fn first_fault(
     classes: &Classes,
     spec: &ClassSpec,
     line: &[ClassId],
-) -> Result<Option<ArgumentKind>, Refusal>
-    ensures ok { IfOk result (λ fault. fault
+) -> Result<Option<ArgumentKind>, AllocError>
+    ensures { IfOk result (λ fault. fault
         ≡ first_fault (rules_of hooks.now) schema.now.tables others.now classes.now spec.now
         line.now) }
-    ensures err { IfErr result (λ e. e ≡ Memory) }
 {
     let tables = tables_on(alloc, schema, classes, line)?;
     let attributes = attributes_on(alloc, schema, classes, line, tables.as_slice())?;
@@ -395,11 +395,10 @@ pub(crate) fn last_fault(
     schema: &Schema,
     classes: &Classes,
     class: usize,
-) -> Result<Option<ArgumentKind>, Refusal>
+) -> Result<Option<ArgumentKind>, AllocError>
     requires { class < length classes.now.specs }
-    ensures ok { IfOk result (λ fault. fault
+    ensures { IfOk result (λ fault. fault
         ≡ fault_at (rules_of hooks.now) schema.now.tables classes.now class) }
-    ensures err { IfErr result (λ e. e ≡ Memory) }
 {
     let specs = classes.specs.as_slice();
     first_fault(

@@ -1,18 +1,17 @@
 //! The attributes of a class.
 
-ghost use Rattle.std.specs.Prelude.{◌≡◌, ◌++◌, IfErr, IfOk, OnOk};
+ghost use Rattle.std.specs.Prelude.{◌≡◌, ◌++◌, IfOk, OnOk};
 ghost use Rattle.std.specs.List.{enumerate_from, flat_map};
-ghost use Rattle.base_core.specs.declared.refusal.Refusal.TheVariants.{Memory};
 ghost use Rattle.class_layouts.specs.Columns.{attribute_at, is_attribute, is_key, keys_among, layout_of, layouts_of, table_attributes};
 
 use crate::Classes;
 use crate::columns::tables_on;
 use crate::lookup::is_shown;
-use base_core::{AttrNo, ClassId, ColumnNo, Copied, ListOf, Refusal, TableId};
+use base_core::{AttrNo, ClassId, ColumnNo, Copied, ListOf, TableId};
 use class_blocks::columns_of;
 use class_types::Attribute;
 use schema_core::{ColumnSpec, Schema, kind_of};
-use std::alloc::Global;
+use std::alloc::{AllocError, Global};
 
 /// What a class has: its tables, its root's first, its attributes, and which of them are those of the key.
 #[derive(Drop)]
@@ -23,20 +22,18 @@ pub struct Layout {
 }
 
 /// A place as a number; places past 32 bits have no memory.
-pub fn number_of(place: usize) -> Result<u32, Refusal>
-    ensures ok { IfOk result (λ number. number ≡ place) }
-    ensures err { IfErr result (λ e. e ≡ Memory) }
+pub fn number_of(place: usize) -> Result<u32, AllocError>
+    ensures { IfOk result (λ number. number ≡ place) }
 {
     match u32::try_from(place) {
         Ok(number) => Ok(number),
-        Err(_) => Err(Refusal::Memory),
+        Err(_) => Err(AllocError),
     }
 }
 
 /// The column at a place of a table, as an attribute.
-fn attribute_of(table: TableId, place: usize, column: &ColumnSpec) -> Result<Attribute, Refusal>
-    ensures ok { IfOk result (λ attribute. attribute ≡ attribute_at table (place, column.now)) }
-    ensures err { IfErr result (λ e. e ≡ Memory) }
+fn attribute_of(table: TableId, place: usize, column: &ColumnSpec) -> Result<Attribute, AllocError>
+    ensures { IfOk result (λ attribute. attribute ≡ attribute_at table (place, column.now)) }
 {
     Ok(Attribute {
         name: column.name.copied()?,
@@ -69,10 +66,9 @@ fn push_attributes(
     line: &[ClassId],
     rank: usize,
     table: TableId,
-) -> Result<(), Refusal>
-    ensures ok { OnOk result (all.new
+) -> Result<(), AllocError>
+    ensures { OnOk result (all.new
         ≡ all.old ++ table_attributes schema.now.tables classes.now line.now (rank, table)) }
-    ensures err { IfErr result (λ e. e ≡ Memory) }
 {
     let columns = columns_of(schema, table);
     for (place, column) in columns.iter().enumerate() {
@@ -91,11 +87,10 @@ pub(crate) fn attributes_on(
     classes: &Classes,
     line: &[ClassId],
     tables: &[TableId],
-) -> Result<ListOf<Attribute>, Refusal>
-    ensures ok { IfOk result (λ all. all
+) -> Result<ListOf<Attribute>, AllocError>
+    ensures { IfOk result (λ all. all
         ≡ flat_map (table_attributes schema.now.tables classes.now line.now)
         (enumerate_from 0 tables.now)) }
-    ensures err { IfErr result (λ e. e ≡ Memory) }
 {
     let mut all = ListOf::new(alloc);
     for (rank, table) in tables.iter().enumerate() {
@@ -120,9 +115,8 @@ fn keys_among(
     alloc: Global,
     schema: &Schema,
     attributes: &[Attribute],
-) -> Result<ListOf<AttrNo>, Refusal>
-    ensures ok { IfOk result (λ keys. keys ≡ keys_among schema.now.tables attributes.now) }
-    ensures err { IfErr result (λ e. e ≡ Memory) }
+) -> Result<ListOf<AttrNo>, AllocError>
+    ensures { IfOk result (λ keys. keys ≡ keys_among schema.now.tables attributes.now) }
 {
     let mut keys = ListOf::new(alloc);
     for (place, attribute) in attributes.iter().enumerate() {
@@ -139,9 +133,8 @@ fn layout_of(
     schema: &Schema,
     classes: &Classes,
     line: &[ClassId],
-) -> Result<Layout, Refusal>
-    ensures ok { IfOk result (λ layout. layout ≡ layout_of schema.now.tables classes.now line.now) }
-    ensures err { IfErr result (λ e. e ≡ Memory) }
+) -> Result<Layout, AllocError>
+    ensures { IfOk result (λ layout. layout ≡ layout_of schema.now.tables classes.now line.now) }
 {
     let tables = tables_on(alloc, schema, classes, line)?;
     let attributes = attributes_on(alloc, schema, classes, line, tables.as_slice())?;
@@ -159,9 +152,8 @@ pub fn layouts_of(
     alloc: Global,
     schema: &Schema,
     classes: &Classes,
-) -> Result<ListOf<Layout>, Refusal>
-    ensures ok { IfOk result (λ layouts. layouts ≡ layouts_of schema.now.tables classes.now) }
-    ensures err { IfErr result (λ e. e ≡ Memory) }
+) -> Result<ListOf<Layout>, AllocError>
+    ensures { IfOk result (λ layouts. layouts ≡ layouts_of schema.now.tables classes.now) }
 {
     let mut layouts = ListOf::new(alloc);
     for line in classes.lines.as_slice() {

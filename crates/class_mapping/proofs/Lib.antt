@@ -12,3 +12,4 @@ pub mod RelatedJoins
 pub mod RelatedPairs
 pub mod OnceLemmas
 pub mod PairedLemmas
+pub mod ConfiguredLemmas

@@ -1,8 +1,8 @@
 -- What is kept of a class, and what declarations leave.
-use Rattle.std.proofs.Common.{◌≡◌, ℕ, ◌<◌, ◌≤◌, Bool, true, false, ◌||◌, if◌then◌else◌, subst, List, [], ◌∷◌, ◌++◌, ◌∙◌, length, filter, ap, sym, refl, Option, None, Some, Result, Ok, Err, arith, length-append, zero-add}
+use Rattle.std.proofs.Common.{◌≡◌, ℕ, ◌<◌, ◌≤◌, Bool, true, false, ◌||◌, if◌then◌else◌, List, [], ◌∷◌, ◌++◌, ◌∙◌, length, filter, ap, sym, refl, Option, None, Some, Result, Ok, Err, arith, length-append, zero-add}
 use Rattle.std.specs.Prelude.{slice_get}
 use Rattle.std.specs.Option.{option_map}
-use Rattle.std.specs.List.{All, enumerate_from, list_all, list_any}
+use Rattle.std.specs.List.{All, enumerate_from, list_any}
 use Rattle.std.proofs.lemmas.List.Elements.{All-filter, All-from_get_or, All-map}
 use Rattle.std.proofs.lemmas.List.FromFn.{get_or-enumerate_from, length-enumerate_from}
 use Rattle.std.proofs.lemmas.Option.{same_Some, slice_get-map}
@@ -18,30 +18,25 @@ use Rattle.schema_core.specs.Catalog.{Catalog, same_name}
 use Rattle.class_types.specs.Rules.{Rules}
 use Rattle.class_types.specs.declared.declared.ClassSpec.{ClassSpec}
 use Rattle.class_types.specs.declared.mapped.Attribute.{Attribute}
-use Rattle.class_types.specs.declared.mapped.Relation.{Relation}
 use Rattle.class_layouts.specs.declared.classes.Classes.{Classes}
 use Rattle.class_layouts.specs.declared.layout.Layout.{Layout}
 use Rattle.class_layouts.specs.Columns.{attr_at, is_key, attributes_on, keys_among, layout_of, layouts_of}
 use Rattle.class_layouts.specs.Declaring.{declared_unless}
 use Rattle.class_layouts.specs.Faults.{class_fault, discriminator_on, fails_discriminator, fault_of_lines, first_fault, is_bad_cascade, is_bad_hook, is_declared, maps_name, misses_declaration, names_on, repeats_identity, root_table_on}
 use Rattle.class_layouts.specs.Hierarchy.{line_of, line_or_none, new_line, root_in, with_class}
-use Rattle.class_sides.specs.Sides.{sides_of}
 use Rattle.class_sides.specs.Linking as linking
 use Rattle.schema_core.specs.Declaration.{has_targets, resolve, some_two}
 use Rattle.class_faults.specs.Faults.{fault_among, mapping_fault}
-use Rattle.class_mapping.specs.Valid.{IsValid}
-use Rattle.class_mapping.specs.Lines.{AreLines}
-use Rattle.class_mapping.specs.Mapped.{IsLaid, IsValidMapping, Mapped, all_validators, no_attribute}
-use Rattle.class_mapping.specs.Plain.{is_over_table, is_plain_root, lines_alone}
+use Rattle.class_mapping.specs.Mapped.{Mapped, no_attribute}
 use Rattle.class_mapping.specs.Declaring.{class_unless, configured_unless, configure}
 use Rattle.class_mapping.proofs.Lists.{none_append}
-use Rattle.class_mapping.proofs.ValidLemmas.{split, valid_from}
+use Rattle.class_mapping.proofs.ValidLemmas.{split}
 
 layout_from : (tables : List TableSpec) (classes : Classes) (layout : Layout) (line : Option (List ClassId)) → option_map (layout_of tables classes) line ≡ Some layout → layout ≡ layout_of tables classes (line_or_none line)
 layout_from tables classes layout None h = absurd cc
 layout_from tables classes layout (Some line) h = sym (same_Some (layout_of tables classes line) layout h)
 
--- what is kept of a class of a configured mapping
+-- what is kept of a class of a mapping
 pub layout_at : (tables : List TableSpec) (classes : Classes) (layouts : List Layout) (class : ℕ) (layout : Layout) → layouts ≡ layouts_of tables classes → slice_get layouts class ≡ Some layout → layout ≡ layout_of tables classes (line_of classes class)
 layout_at tables classes layouts class layout laid here =
     layout_from tables classes layout (slice_get classes.lines class)
@@ -63,11 +58,11 @@ lined_more classes spec new h same = rw h (grind (arith, same, length-append {A 
 
 -- a class that is taken stands behind the others
 pub class_taken : (fault : Option ArgumentKind) (mapped : Mapped) (spec : ClassSpec) (new : Classes) → declared_unless fault mapped.classes spec ≡ Ok (tt, new)
-    → class_unless fault mapped spec ≡ Ok (record { 0 = length mapped.classes.specs }, record { schema = mapped.schema; classes = new; configured = false })
+    → class_unless fault mapped spec ≡ Ok (record { 0 = length mapped.classes.specs }, record { schema = mapped.schema; classes = new })
 class_taken (Some fault) mapped spec new h = absurd cc
 class_taken None mapped spec new h =
     let same : with_class mapped.classes spec ≡ new = ap (λ (p : Unit {0} × Classes). p.1) (ok_inj {E = Refusal} (tt, with_class mapped.classes spec) (tt, new) h) in
-    ap (λ (now : Classes). let r : Result (ClassId × Mapped) Refusal = Ok (record { 0 = length mapped.classes.specs }, record { schema = mapped.schema; classes = now; configured = false }) in r) same
+    ap (λ (now : Classes). let r : Result (ClassId × Mapped) Refusal = Ok (record { 0 = length mapped.classes.specs }, record { schema = mapped.schema; classes = now }) in r) same
 
 err_inj : (x y : Refusal) → (let one : Result (Unit {0} × Classes) Refusal = Err x in one ≡ Err y) → x ≡ y
 err_inj x y h = cc
@@ -111,13 +106,6 @@ orphans_more rules tables classes spec new h old =
     rw (taken_is (class_fault rules tables classes spec) classes spec new h)
     (none_with spec classes.specs old (no_orphans rules tables classes spec (untaken (class_fault rules tables classes spec) classes spec new h)))
 
--- a configured mapping is valid
-pub valid_mapping : (schema : Catalog) (classes : Classes) (configured : Bool) (mapped : Mapped) → record { schema = schema; classes = classes; configured = configured } ≡ mapped
-    → list_any (λ spec. list_any is_bad_cascade spec.relations) classes.specs ≡ false → (configured ≡ true → mapping_fault schema.tables classes ≡ None) → mapped.configured ≡ true
-    → IsValidMapping mapped
-valid_mapping schema classes configured mapped e orphans valid done =
-    subst IsValidMapping e (valid_from schema.tables classes (layouts_of schema.tables classes) orphans (valid (ap (λ (m : Mapped). m.configured) e ∙ done)))
-
 -- the first kind is that a foreign key lacks its target
 pub no_targets : (tables : List TableSpec) (classes : Classes) → has_targets tables ≡ false → mapping_fault tables classes ≡ Some BadTarget
 unfolding fault_among
@@ -149,34 +137,3 @@ resolved_by false schema new h = absurd cc
 pub resolved_is : (schema new : Catalog) → resolve schema ≡ Ok (tt, new) → all_found schema ≡ new
 unfolding resolve
 resolved_is schema new h = resolved_by (has_targets schema.tables) schema new h
-
--- what is kept once all was checked
-pub laid_by : (schema new : Catalog) (classes : Classes) (fault : Option ArgumentKind) (layouts : List Layout) (relations : List (List Relation)) (validators : List (List (List ℕ × List ℕ)))
-    → length classes.specs ≤ 4294967295 → length classes.lines ≡ length classes.specs → AreLines schema.tables classes → (list_all is_plain_root classes.specs ≡ true → classes.lines ≡ lines_alone classes.specs)
-    → list_all (is_over_table schema.tables) classes.specs ≡ true → list_any (λ spec. list_any is_bad_cascade spec.relations) classes.specs ≡ false
-    → resolve schema ≡ Ok (tt, new) → fault ≡ mapping_fault schema.tables classes → fault ≡ None
-    → layouts ≡ layouts_of schema.tables classes → relations ≡ linking.relations_of schema.tables classes → validators ≡ all_validators classes
-    → IsLaid new classes true layouts relations validators
-laid_by schema new classes fault layouts relations validators few lined lines alone over orphans h told none laid linked validated =
-    subst (λ (now : Catalog). IsLaid now classes true layouts relations validators) (resolved_is schema new h)
-    (record {
-      few = few;
-      lined = lined;
-      lines = lines;
-      alone = alone;
-      over = over;
-      orphans = orphans;
-      valid = λ _. sym told ∙ none;
-      resolved = λ _. refl;
-      laid = λ _. laid;
-      linked = λ _. linked;
-      validated = λ _. validated;
-    })
-
--- a mapping that was checked is valid
-pub valid_by_check : (schema new : Catalog) (classes : Classes) (fault : Option ArgumentKind) → list_any (λ spec. list_any is_bad_cascade spec.relations) classes.specs ≡ false
-    → resolve schema ≡ Ok (tt, new) → fault ≡ mapping_fault schema.tables classes → fault ≡ None
-    → IsValid new.tables classes (layouts_of new.tables classes) (sides_of new.tables classes (layouts_of new.tables classes))
-valid_by_check schema new classes fault orphans h told none =
-    subst (λ (now : Catalog). IsValid now.tables classes (layouts_of now.tables classes) (sides_of now.tables classes (layouts_of now.tables classes))) (resolved_is schema new h)
-    (valid_from schema.tables classes (layouts_of schema.tables classes) orphans (sym told ∙ none))

@@ -1,35 +1,26 @@
 -- The hierarchies and the pairs of a valid mapping, place by place.
-use Rattle.std.proofs.Common.{◌≡◌, inl, inr, ℕ, ◌<◌, Bool, true, false, not, ◌&&◌, ◌||◌, List, [], ◌∷◌, ◌++◌, ◌∙◌, length, ap, sym, refl, subst, Option, None, Some, Ok, is_some, is_none, if◌then◌else◌}
+use Rattle.std.proofs.Common.{◌≡◌, inl, inr, ℕ, ◌<◌, Bool, true, false, not, ◌&&◌, ◌||◌, List, [], ◌∷◌, ◌++◌, ◌∙◌, length, ap, sym, refl, subst, Option, None, Some, is_some, is_none, if◌then◌else◌}
 use Rattle.std.specs.Prelude.{slice_get}
 use Rattle.std.specs.Option.{option_map}
-use Rattle.std.specs.List.{list_any}
 use Rattle.std.proofs.lemmas.Grind.{flat_map-append}
 use Rattle.std.proofs.lemmas.Option.{same_Some, slice_get-map, slice_get_within}
 use Rattle.base_core.specs.declared.ids.ClassId.{ClassId}
-use Rattle.base_core.specs.declared.refusal.ArgumentKind.{ArgumentKind}
-use Rattle.schema_core.specs.Catalog.{Catalog}
-use Rattle.schema_core.specs.Declaration.{resolve}
 use Rattle.class_types.specs.declared.mapped.Relation.{Relation}
 use Rattle.class_layouts.specs.declared.classes.Classes.{Classes}
-use Rattle.class_layouts.specs.Columns.{layouts_of}
-use Rattle.class_layouts.specs.Faults.{is_bad_cascade}
 use Rattle.class_layouts.specs.Hierarchy.{has_class, line_of, root_in}
 use Rattle.class_blocks.specs.declared.side.Side.{Side}
 use Rattle.class_sides.specs.Keys.{same_key}
 use Rattle.class_sides.specs.Pairs.{differ, is_plain, is_target_in}
 use Rattle.class_sides.specs.Linking as linking
 use Rattle.class_sides.specs.Linking.{class_or as target_or, ends_on, far_key, near_key}
-use Rattle.class_faults.specs.Faults.{mapping_fault}
 use Rattle.class_mapping.specs.Lines.{AreLines}
-use Rattle.class_mapping.specs.Mapped.{IsValidMapping, Mapped, class_or, list_or_none, partner_of, root_of}
+use Rattle.class_mapping.specs.Mapped.{Mapped, class_or, list_or_none, partner_of, root_of}
 use Rattle.class_mapping.specs.Paired.{HasPairs, IsAt, IsBack, are_opposite, is_at_or_under}
 use Rattle.class_mapping.specs.Related.{ArePartners, share_key}
 use Rattle.class_mapping.specs.Valid.{IsValid}
 use Rattle.class_mapping.proofs.Having.{Has, all_of, has_at}
 use Rattle.class_mapping.proofs.LineLemmas.{base_declared, declared_in, got_still, line_within}
 use Rattle.class_mapping.proofs.Lists.{and_both, and_left, and_right}
-use Rattle.class_mapping.proofs.MappingLemmas.{all_found, resolved_is}
-use Rattle.class_mapping.proofs.ValidLemmas.{valid_from}
 use Rattle.class_mapping.proofs.OnceLemmas.{stands_once}
 use Rattle.class_mapping.proofs.RelatedLemmas.{Came, back_in, came, has_partner, layouts_in, list_for, own_in, sides_in}
 use Rattle.class_mapping.proofs.RelatedKeys.{found_ends, or_rest, plain_found, target_is}
@@ -182,17 +173,3 @@ module _ (mapped : Mapped) (lined : length mapped.classes.lines ≡ length mappe
 
     pub has_pairs : HasPairs mapped
     has_pairs = record { rooted = same_roots; inherited = same_places; back = leads_back; returns = partner_back }
-
--- the same of a mapping that is seen
-pub paired_seen : (schema : Catalog) (classes : Classes) (configured : Bool) (mapped : Mapped) → record { schema = schema; classes = classes; configured = configured } ≡ mapped
-    → length classes.lines ≡ length classes.specs → AreLines schema.tables classes → IsValidMapping mapped → HasPairs mapped
-paired_seen schema classes configured mapped e lined lines =
-    subst (λ (m : Mapped). IsValidMapping m → HasPairs m) e (λ valid. has_pairs (record { schema = schema; classes = classes; configured = configured }) lined lines valid)
-
--- the same of one that was checked
-pub paired_by_check : (schema new : Catalog) (classes : Classes) (fault : Option ArgumentKind) → length classes.lines ≡ length classes.specs → AreLines schema.tables classes
-    → list_any (λ spec. list_any is_bad_cascade spec.relations) classes.specs ≡ false → resolve schema ≡ Ok (tt, new) → fault ≡ mapping_fault schema.tables classes → fault ≡ None
-    → HasPairs (record { schema = new; classes = classes; configured = true })
-paired_by_check schema new classes fault lined lines orphans h told none =
-    subst (λ (now : Catalog). HasPairs (record { schema = now; classes = classes; configured = true })) (resolved_is schema new h)
-    (has_pairs (record { schema = all_found schema; classes = classes; configured = true }) lined lines (valid_from schema.tables classes (layouts_of schema.tables classes) orphans (sym told ∙ none)))

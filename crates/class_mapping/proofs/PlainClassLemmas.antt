@@ -213,26 +213,26 @@ plain_class mapped class lines over less all =
     }
 
 -- the same of a mapping that is seen
-pub plain_seen : (schema : Catalog) (classes : Classes) (configured : Bool) (mapped : Mapped) (class : ClassId) → record { schema = schema; classes = classes; configured = configured } ≡ mapped
+pub plain_seen : (schema : Catalog) (classes : Classes) (mapped : Mapped) (class : ClassId) → record { schema = schema; classes = classes } ≡ mapped
     → (list_all is_plain_root classes.specs ≡ true → classes.lines ≡ lines_alone classes.specs) → list_all (is_over_table schema.tables) classes.specs ≡ true
     → IsClass mapped class → ArePlain mapped → IsPlainClass mapped class
-plain_seen schema classes configured mapped class e lines over =
-    subst (λ (m : Mapped). IsClass m class → ArePlain m → IsPlainClass m class) e (plain_class (record { schema = schema; classes = classes; configured = configured }) class lines over)
+plain_seen schema classes mapped class e lines over =
+    subst (λ (m : Mapped). IsClass m class → ArePlain m → IsPlainClass m class) e (plain_class (record { schema = schema; classes = classes }) class lines over)
 
 -- ---- a fault that is told early
 
 -- it is that of the declaration
-pub told_early : (rules : Rules) (schema : Catalog) (classes : Classes) (configured : Bool) (mapped : Mapped) (spec : ClassSpec) (specs : List ClassSpec) (fault : ArgumentKind) → record { schema = schema; classes = classes; configured = configured } ≡ mapped
+pub told_early : (rules : Rules) (schema : Catalog) (classes : Classes) (mapped : Mapped) (spec : ClassSpec) (specs : List ClassSpec) (fault : ArgumentKind) → record { schema = schema; classes = classes } ≡ mapped
     → specs ≡ classes.specs → Some fault ≡ early_fault schema.tables specs spec → declare_class rules mapped spec ≡ Err (ArgumentError fault)
 unfolding declare_class
-told_early rules schema classes configured mapped spec specs fault e same told =
-    let now : Mapped = record { schema = schema; classes = classes; configured = configured } in
+told_early rules schema classes mapped spec specs fault e same told =
+    let now : Mapped = record { schema = schema; classes = classes } in
     subst (λ (m : Mapped). declare_class rules m spec ≡ Err (ArgumentError fault)) e
     (ap (λ (found : Option ArgumentKind). class_unless found now spec)
     (early_is rules schema.tables classes spec fault (sym (told ∙ ap (λ (others : List ClassSpec). early_fault schema.tables others spec) same))))
 
 -- none is
-pub not_early : (schema : Catalog) (classes : Classes) (configured : Bool) (mapped : Mapped) (spec : ClassSpec) (specs : List ClassSpec) → record { schema = schema; classes = classes; configured = configured } ≡ mapped
+pub not_early : (schema : Catalog) (classes : Classes) (mapped : Mapped) (spec : ClassSpec) (specs : List ClassSpec) → record { schema = schema; classes = classes } ≡ mapped
     → specs ≡ classes.specs → None ≡ early_fault schema.tables specs spec → early_fault mapped.schema.tables mapped.classes.specs spec ≡ None
-not_early schema classes configured mapped spec specs e same told =
+not_early schema classes mapped spec specs e same told =
     subst (λ (m : Mapped). early_fault m.schema.tables m.classes.specs spec ≡ None) e (sym (told ∙ ap (λ (others : List ClassSpec). early_fault schema.tables others spec) same))

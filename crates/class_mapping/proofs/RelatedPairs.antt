@@ -1,5 +1,5 @@
 -- The pairs of a valid mapping: a foreign key serves one.
-use Rattle.std.proofs.Common.{◌≡◌, ◌⊎◌, inl, inr, ℕ, ◌<◌, Bool, true, false, not, ◌&&◌, ◌||◌, List, [], ◌∷◌, ◌∙◌, length, get_or, ap, sym, refl, subst, Option, None, Some, Ok, is_some, is_none, ◌==◌, if◌then◌else◌}
+use Rattle.std.proofs.Common.{◌≡◌, ◌⊎◌, inl, inr, ℕ, ◌<◌, Bool, true, false, not, ◌&&◌, ◌||◌, List, [], ◌∷◌, ◌∙◌, length, get_or, ap, sym, refl, subst, Option, None, Some, is_some, is_none, ◌==◌, if◌then◌else◌}
 use Rattle.std.specs.Prelude.{find, slice_get}
 use Rattle.std.specs.List.{All, list_any, position}
 use Rattle.std.proofs.lemmas.Bool.{eq-eqb, eqb-true, not-true}
@@ -11,13 +11,11 @@ use Rattle.base_core.specs.declared.ids.ClassId.{ClassId}
 use Rattle.base_core.specs.declared.ids.RelNo.{RelNo}
 use Rattle.base_core.specs.declared.ids.TableId.{TableId}
 use Rattle.schema_core.specs.declared.table.TableSpec.{TableSpec}
-use Rattle.base_core.specs.declared.refusal.ArgumentKind.{ArgumentKind}
-use Rattle.schema_core.specs.Catalog.{Catalog, no_table, same_name}
-use Rattle.schema_core.specs.Declaration.{resolve, some_two}
+use Rattle.schema_core.specs.Catalog.{no_table, same_name}
+use Rattle.schema_core.specs.Declaration.{some_two}
 use Rattle.class_types.specs.declared.mapped.Relation.{Relation}
 use Rattle.class_layouts.specs.declared.classes.Classes.{Classes}
-use Rattle.class_layouts.specs.Columns.{is_table, layouts_of, named_table}
-use Rattle.class_layouts.specs.Faults.{is_bad_cascade}
+use Rattle.class_layouts.specs.Columns.{is_table, named_table}
 use Rattle.class_layouts.specs.declared.layout.Layout.{Layout}
 use Rattle.class_layouts.specs.Hierarchy.{has_class, line_of}
 use Rattle.class_blocks.specs.declared.side.Side.{Side}
@@ -25,14 +23,11 @@ use Rattle.class_sides.specs.Keys.{TableKey, allows, names_of, same_key}
 use Rattle.class_sides.specs.Sides.{Ends, candidates, layout_at}
 use Rattle.class_sides.specs.Pairs.{differ, fits, fits_mutual, is_of_target, is_partner, is_plain, is_served_by, join_of, leads_to, mutual_of, names_each_other, overlaps, same_secondary, shares}
 use Rattle.class_sides.specs.Linking.{ends_on, far_key, far_or, key_or_none, near_key, near_or}
-use Rattle.class_faults.specs.Faults.{mapping_fault}
 use Rattle.class_mapping.specs.Lines.{AreLines}
-use Rattle.class_mapping.specs.Mapped.{IsClass, IsValidMapping, Mapped, partner_of, relations_of}
+use Rattle.class_mapping.specs.Mapped.{IsClass, Mapped, partner_of, relations_of}
 use Rattle.class_mapping.specs.Related.{AreApart, ArePartners, AreRelated, SharesKey, relation_at, share_key}
 use Rattle.class_mapping.specs.Valid.{IsValid, covers, covers_both, holds_of, is_joined, is_paired, joins_ends}
 use Rattle.class_mapping.proofs.Having.{Has, all_from, all_of, any_has, found_of, has_at, named_alike, none_of, some_of, true_false}
-use Rattle.class_mapping.proofs.MappingLemmas.{all_found, resolved_is}
-use Rattle.class_mapping.proofs.ValidLemmas.{valid_from}
 use Rattle.base_core.proofs.Tests.{or_first, or_then}
 use Rattle.schema_core.proofs.Names.{same_names}
 use Rattle.class_mapping.proofs.Lists.{and_both, and_every, and_left, and_right, or_left, or_right, and_three, three_parts}
@@ -462,17 +457,3 @@ module _ (mapped : Mapped) (lined : length mapped.classes.lines ≡ length mappe
 
   pub are_related : AreRelated mapped
   are_related = record { each = each_related mapped lined lines valid; shared = each_shares; apart = are_apart }
-
--- the same of a mapping that is seen
-pub related_seen : (schema : Catalog) (classes : Classes) (configured : Bool) (mapped : Mapped) → record { schema = schema; classes = classes; configured = configured } ≡ mapped
-    → length classes.lines ≡ length classes.specs → AreLines schema.tables classes → IsValidMapping mapped → AreRelated mapped
-related_seen schema classes configured mapped e lined lines =
-    subst (λ (m : Mapped). IsValidMapping m → AreRelated m) e (λ valid. are_related (record { schema = schema; classes = classes; configured = configured }) lined lines valid)
-
--- the same of one that was checked
-pub related_by_check : (schema new : Catalog) (classes : Classes) (fault : Option ArgumentKind) → length classes.lines ≡ length classes.specs → AreLines schema.tables classes
-    → list_any (λ spec. list_any is_bad_cascade spec.relations) classes.specs ≡ false → resolve schema ≡ Ok (tt, new) → fault ≡ mapping_fault schema.tables classes → fault ≡ None
-    → AreRelated (record { schema = new; classes = classes; configured = true })
-related_by_check schema new classes fault lined lines orphans h told none =
-    subst (λ (now : Catalog). AreRelated (record { schema = now; classes = classes; configured = true })) (resolved_is schema new h)
-    (are_related (record { schema = all_found schema; classes = classes; configured = true }) lined lines (valid_from schema.tables classes (layouts_of schema.tables classes) orphans (sym told ∙ none)))

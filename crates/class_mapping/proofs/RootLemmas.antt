@@ -1,5 +1,5 @@
 -- The root of a class is declared, extends none, and has a declared table.
-use Rattle.std.proofs.Common.{◌≡◌, ◌<◌, Bool, true, List, [], ◌∙◌, length, ap, sym, refl, subst, Option, None, Some, is_some, is_none}
+use Rattle.std.proofs.Common.{◌≡◌, ◌<◌, true, List, [], ◌∙◌, length, ap, sym, refl, subst, Option, None, Some, is_some, is_none}
 use Rattle.std.specs.Prelude.{slice_get}
 use Rattle.std.proofs.lemmas.Option.{get_or_from_slice_get, slice_get-get_or, slice_get_within}
 use Rattle.base_core.specs.declared.ids.ClassId.{ClassId}
@@ -49,7 +49,7 @@ root_is mapped class lined lines less =
     (line_rooted mapped class (slice_get mapped.classes.lines class.0) refl lines (ap is_some (slice_get-get_or mapped.classes.lines class.0 [] within)))
 
 -- the same of a mapping that is seen
-pub root_seen : (schema : Catalog) (classes : Classes) (configured : Bool) (mapped : Mapped) (class : ClassId) → record { schema = schema; classes = classes; configured = configured } ≡ mapped
+pub root_seen : (schema : Catalog) (classes : Classes) (mapped : Mapped) (class : ClassId) → record { schema = schema; classes = classes } ≡ mapped
     → length classes.lines ≡ length classes.specs → AreLines schema.tables classes → IsClass mapped class → IsRootOver mapped (root_of mapped class)
-root_seen schema classes configured mapped class e lined lines =
-    subst (λ (m : Mapped). IsClass m class → IsRootOver m (root_of m class)) e (root_is (record { schema = schema; classes = classes; configured = configured }) class lined lines)
+root_seen schema classes mapped class e lined lines =
+    subst (λ (m : Mapped). IsClass m class → IsRootOver m (root_of m class)) e (root_is (record { schema = schema; classes = classes }) class lined lines)

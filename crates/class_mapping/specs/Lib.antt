@@ -1,8 +1,9 @@
-pub mod Valid
-pub mod Plain
+pub mod Configured
+pub mod Declaring
 pub mod Lines
 pub mod Mapped
-pub mod Related
-pub mod Declaring
-pub mod PlainClass
 pub mod Paired
+pub mod Plain
+pub mod PlainClass
+pub mod Related
+pub mod Valid

@@ -1,7 +1,7 @@
 -- A mapping: the tables, the classes over them, and what each class has.
-use Rattle.std.specs.Prelude.{◌≡◌, ℕ, ◌-◌, ◌<◌, ◌≤◌, Bool, true, false, List, [], length, map, nat_lt, slice_get, slice_index_or, ◌==◌, Option, None, Some, if◌then◌else◌}
+use Rattle.std.specs.Prelude.{ℕ, ◌-◌, ◌<◌, Bool, List, [], length, nat_lt, slice_get, slice_index_or, ◌==◌, Option, None, Some, if◌then◌else◌}
 use Rattle.std.specs.Option.{option_map}
-use Rattle.std.specs.List.{flat_map, list_all, list_any, position}
+use Rattle.std.specs.List.{list_any, position}
 use Rattle.base_core.specs.declared.ids.AttrNo.{AttrNo}
 use Rattle.base_core.specs.declared.ids.ClassId.{ClassId}
 use Rattle.base_core.specs.declared.ids.TableId.{TableId}
@@ -17,19 +17,15 @@ use Rattle.class_layouts.specs.declared.classes.Classes.{Classes}
 use Rattle.class_layouts.specs.declared.layout.Layout.{Layout}
 use Rattle.class_layouts.specs.Hierarchy as hierarchy
 use Rattle.class_layouts.specs.Columns as columns
-use Rattle.class_layouts.specs.Faults.{is_bad_cascade}
 use Rattle.class_faults.specs.Faults.{mapping_fault}
 use Rattle.class_sides.specs.Sides.{sides_of}
 use Rattle.class_sides.specs.Linking as linking
 use Rattle.class_mapping.specs.Valid.{IsValid}
-use Rattle.class_mapping.specs.Lines.{AreLines}
-use Rattle.class_mapping.specs.Plain.{is_over_table, is_plain_root, lines_alone}
 
--- the tables, the declared classes in order of number with their lines from the root down, and whether all was checked since the last declaration
+-- the tables, and the declared classes in order of number with their lines from the root down
 pub record Mapped : Type 0 where
   pub schema : Catalog
   pub classes : Classes
-  pub configured : Bool
 
 -- a class of this number is declared
 abbrev pub IsClass : Mapped → ClassId → Type 0
@@ -146,19 +142,3 @@ abbrev pub IsValidMapping : Mapped → Type 0
 IsValidMapping mapped =
     let layouts = columns.layouts_of mapped.schema.tables mapped.classes in
     IsValid mapped.schema.tables mapped.classes layouts (sides_of mapped.schema.tables mapped.classes layouts)
-
--- What every mapping keeps: there is a line for each class, which begins with a root over a declared table, and which is the
--- class alone where all are plain roots, the tables that classes name are declared, delete-orphan is at one-to-many alone, and once it is configured it has no fault, and what
--- each class has is known.
-pub record IsLaid (schema : Catalog) (classes : Classes) (configured : Bool) (layouts : List Layout) (relations : List (List Relation)) (validators : List (List (List ℕ × List ℕ))) : Type 0 where
-  pub few : length classes.specs ≤ 4294967295
-  pub lined : length classes.lines ≡ length classes.specs
-  pub lines : AreLines schema.tables classes
-  pub alone : list_all is_plain_root classes.specs ≡ true → classes.lines ≡ lines_alone classes.specs
-  pub over : list_all (is_over_table schema.tables) classes.specs ≡ true
-  pub orphans : list_any (λ spec. list_any is_bad_cascade spec.relations) classes.specs ≡ false
-  pub valid : configured ≡ true → mapping_fault schema.tables classes ≡ None
-  pub resolved : configured ≡ true → schema.resolved ≡ true
-  pub laid : configured ≡ true → layouts ≡ columns.layouts_of schema.tables classes
-  pub linked : configured ≡ true → relations ≡ linking.relations_of schema.tables classes
-  pub validated : configured ≡ true → validators ≡ all_validators classes

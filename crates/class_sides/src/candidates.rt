@@ -1,19 +1,18 @@
 //! Which foreign keys can serve a relationship without a secondary table.
 
-ghost use Rattle.std.specs.Prelude.{◌≡◌, ◌&&◌, ◌==◌, ◌++◌, IfErr, IfOk, OnOk, slice_get};
+ghost use Rattle.std.specs.Prelude.{◌≡◌, ◌&&◌, ◌==◌, ◌++◌, IfOk, OnOk, slice_get};
 ghost use Rattle.std.specs.Option.{option_copied};
 ghost use Rattle.std.specs.List.{enumerate_from, flat_map, list_all, list_any};
 ghost use Rattle.schema_core.specs.Catalog.{same_name};
-ghost use Rattle.base_core.specs.declared.refusal.Refusal.TheVariants.{Memory};
 ghost use Rattle.class_sides.specs.Sides.{candidates, candidates_of, has_attribute, layout_at, serves, table_candidates};
 
 use crate::keys::{is_inherited, refers_into};
-use base_core::{ClassId, ListOf, Name, Refusal, TableId};
+use base_core::{ClassId, ListOf, Name, TableId};
 use class_blocks::{TableKey, allows};
 use class_layouts::{Layout, foreigns_of, number_of};
 use class_types::{Attribute, RelationSpec};
 use schema_core::{ForeignSpec, Schema};
-use std::alloc::Global;
+use std::alloc::{AllocError, Global};
 
 /// What a class has.
 pub(crate) fn layout_at(layouts: &[Layout], class: Option<ClassId>) -> Option<&Layout>
@@ -76,11 +75,10 @@ fn push_candidates(
     named: &[Name],
     rank: usize,
     table: TableId,
-) -> Result<(), Refusal>
-    ensures ok { OnOk result (all.new
+) -> Result<(), AllocError>
+    ensures { OnOk result (all.new
         ≡ all.old ++ table_candidates schema.now.tables child.now owners.now named.now
         (rank, table)) }
-    ensures err { IfErr result (λ e. e ≡ Memory) }
 {
     let foreigns = foreigns_of(schema, table);
     for (place, foreign) in foreigns.iter().enumerate() {
@@ -99,11 +97,10 @@ fn candidates_among(
     child: &Layout,
     owners: &[TableId],
     named: &[Name],
-) -> Result<ListOf<TableKey>, Refusal>
-    ensures ok { IfOk result (λ all. all
+) -> Result<ListOf<TableKey>, AllocError>
+    ensures { IfOk result (λ all. all
         ≡ flat_map (table_candidates schema.now.tables child.now owners.now named.now)
         (enumerate_from 0 child.now.tables)) }
-    ensures err { IfErr result (λ e. e ≡ Memory) }
 {
     let tables = child.tables.as_slice();
     let mut all = ListOf::new(alloc);
@@ -121,11 +118,10 @@ fn candidates(
     named: &[Name],
     child: Option<ClassId>,
     owner: Option<ClassId>,
-) -> Result<ListOf<TableKey>, Refusal>
-    ensures ok { IfOk result (λ all. all
+) -> Result<ListOf<TableKey>, AllocError>
+    ensures { IfOk result (λ all. all
         ≡ candidates schema.now.tables named.now (layout_at layouts.now child)
         (layout_at layouts.now owner)) }
-    ensures err { IfErr result (λ e. e ≡ Memory) }
 {
     let Some(child) = layout_at(layouts, child) else {
         return Ok(ListOf::new(alloc));
@@ -144,11 +140,10 @@ pub(crate) fn candidates_of(
     relation: &RelationSpec,
     own: Option<ClassId>,
     target: Option<ClassId>,
-) -> Result<ListOf<TableKey>, Refusal>
-    ensures ok { IfOk result (λ all. all
+) -> Result<ListOf<TableKey>, AllocError>
+    ensures { IfOk result (λ all. all
         ≡ candidates_of schema.now.tables relation.now (layout_at layouts.now own)
         (layout_at layouts.now target)) }
-    ensures err { IfErr result (λ e. e ≡ Memory) }
 {
     let named = relation.using.as_slice();
     if relation.many {

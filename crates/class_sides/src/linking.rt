@@ -1,22 +1,21 @@
 //! The relationships of each class of a configured mapping.
 
-ghost use Rattle.std.specs.Prelude.{◌≡◌, ◌&&◌, ◌||◌, ◌++◌, [], ◌∷◌, IfErr, IfOk, OnOk, filter, find, map, not};
+ghost use Rattle.std.specs.Prelude.{◌≡◌, ◌&&◌, ◌||◌, ◌++◌, [], ◌∷◌, IfOk, OnOk, filter, find, map, not};
 ghost use Rattle.std.specs.Option.{option_copied};
 ghost use Rattle.std.specs.List.{flat_map, position};
 ghost use Rattle.schema_core.specs.Catalog.{same_name};
-ghost use Rattle.base_core.specs.declared.refusal.Refusal.TheVariants.{Memory};
 ghost use Rattle.class_blocks.specs.Sides.{is_own, makes_back, names_on};
 ghost use Rattle.class_sides.specs.Pairs.{is_plain};
 ghost use Rattle.class_sides.specs.Linking.{all_names, back_relation, class_or, ends_from, ends_on, far_key, far_or, is_same_pair, key_or_none, near_key, near_or, own_relation, place_in, place_or_none, relations_at, relations_by, relations_on, swapped_ends};
 
 use crate::pairs::{is_plain, join_of};
 use crate::partners::{is_partner, same_side};
-use base_core::{ClassId, Copied, ListOf, Name, Refusal, RelNo, TableId};
+use base_core::{ClassId, Copied, ListOf, Name, RelNo, TableId};
 use class_blocks::{Ends, Side, TableKey, cascade_or_default, is_own, makes_back, names_on};
 use class_layouts::{Classes, number_of};
 use class_types::Relation;
 use schema_core::Schema;
-use std::alloc::Global;
+use std::alloc::{AllocError, Global};
 
 // ---- the names of a class's relationships
 
@@ -25,9 +24,8 @@ fn all_names(
     alloc: Global,
     classes: &Classes,
     sides: &[Side],
-) -> Result<ListOf<ListOf<Name>>, Refusal>
-    ensures ok { IfOk result (λ names. names ≡ all_names classes.now sides.now) }
-    ensures err { IfErr result (λ e. e ≡ Memory) }
+) -> Result<ListOf<ListOf<Name>>, AllocError>
+    ensures { IfOk result (λ names. names ≡ all_names classes.now sides.now) }
 {
     let mut names = ListOf::new(alloc);
     for line in classes.lines.as_slice() {
@@ -44,10 +42,9 @@ fn place_of(names: &[Name], name: &Name) -> Option<usize>
 }
 
 /// The place of a name as a relationship's number.
-fn place_among(names: &[Name], name: &Name) -> Result<RelNo, Refusal>
-    ensures ok { IfOk result (λ place. place
+fn place_among(names: &[Name], name: &Name) -> Result<RelNo, AllocError>
+    ensures { IfOk result (λ place. place
         ≡ place_or_none (position (λ other. same_name other name.now) names.now)) }
-    ensures err { IfErr result (λ e. e ≡ Memory) }
 {
     match place_of(names, name) {
         Some(place) => Ok(RelNo(number_of(place)?)),
@@ -56,9 +53,8 @@ fn place_among(names: &[Name], name: &Name) -> Result<RelNo, Refusal>
 }
 
 /// The place of the relationship of a name in the list of a class.
-fn place_in(names: &[ListOf<Name>], class: ClassId, name: &Name) -> Result<RelNo, Refusal>
-    ensures ok { IfOk result (λ place. place ≡ place_in names.now class name.now) }
-    ensures err { IfErr result (λ e. e ≡ Memory) }
+fn place_in(names: &[ListOf<Name>], class: ClassId, name: &Name) -> Result<RelNo, AllocError>
+    ensures { IfOk result (λ place. place ≡ place_in names.now class name.now) }
 {
     match names.get(class.0 as usize) {
         Some(own) => place_among(own.as_slice(), name),
@@ -171,10 +167,9 @@ fn push_own_relation(
     sides: &[Side],
     names: &[ListOf<Name>],
     side: &Side,
-) -> Result<(), Refusal>
-    ensures ok { OnOk result (all.new ≡ all.old
+) -> Result<(), AllocError>
+    ensures { OnOk result (all.new ≡ all.old
         ++ own_relation schema.now.tables classes.now sides.now names.now side.now ∷ []) }
-    ensures err { IfErr result (λ e. e ≡ Memory) }
 {
     let target = class_or(side.target, side.class);
     let ends = ends_on(sides, side);
@@ -201,10 +196,9 @@ fn push_back_relation(
     sides: &[Side],
     names: &[ListOf<Name>],
     side: &Side,
-) -> Result<(), Refusal>
-    ensures ok { OnOk result (all.new ≡ all.old
+) -> Result<(), AllocError>
+    ensures { OnOk result (all.new ≡ all.old
         ++ back_relation schema.now.tables classes.now sides.now names.now side.now ∷ []) }
-    ensures err { IfErr result (λ e. e ≡ Memory) }
 {
     let ends = ends_on(sides, side);
     let partner = place_in(names, side.class, &side.spec.name)?;
@@ -231,11 +225,10 @@ fn push_own(
     sides: &[Side],
     names: &[ListOf<Name>],
     class: ClassId,
-) -> Result<(), Refusal>
-    ensures ok { OnOk result (all.new
+) -> Result<(), AllocError>
+    ensures { OnOk result (all.new
         ≡ all.old ++ map (own_relation schema.now.tables classes.now sides.now names.now)
         (filter (is_own class) sides.now)) }
-    ensures err { IfErr result (λ e. e ≡ Memory) }
 {
     for side in sides {
         if is_own(class, side) {
@@ -254,11 +247,10 @@ fn push_back(
     sides: &[Side],
     names: &[ListOf<Name>],
     class: ClassId,
-) -> Result<(), Refusal>
-    ensures ok { OnOk result (all.new
+) -> Result<(), AllocError>
+    ensures { OnOk result (all.new
         ≡ all.old ++ map (back_relation schema.now.tables classes.now sides.now names.now)
         (filter (makes_back class) sides.now)) }
-    ensures err { IfErr result (λ e. e ≡ Memory) }
 {
     for side in sides {
         if makes_back(class, side) {
@@ -279,10 +271,9 @@ fn push_relations_on(
     sides: &[Side],
     names: &[ListOf<Name>],
     line: &[ClassId],
-) -> Result<(), Refusal>
-    ensures ok { OnOk result (all.new ≡ all.old
+) -> Result<(), AllocError>
+    ensures { OnOk result (all.new ≡ all.old
         ++ relations_on schema.now.tables classes.now sides.now names.now line.now ∷ []) }
-    ensures err { IfErr result (λ e. e ≡ Memory) }
 {
     let mut relations = ListOf::new(alloc);
     for class in line {
@@ -298,9 +289,8 @@ pub fn relations_by(
     schema: &Schema,
     classes: &Classes,
     sides: &[Side],
-) -> Result<ListOf<ListOf<Relation>>, Refusal>
-    ensures ok { IfOk result (λ all. all ≡ relations_by schema.now.tables classes.now sides.now) }
-    ensures err { IfErr result (λ e. e ≡ Memory) }
+) -> Result<ListOf<ListOf<Relation>>, AllocError>
+    ensures { IfOk result (λ all. all ≡ relations_by schema.now.tables classes.now sides.now) }
 {
     let names = all_names(alloc, classes, sides)?;
     let mut all = ListOf::new(alloc);

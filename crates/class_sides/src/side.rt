@@ -1,22 +1,20 @@
 //! The declared relationships: where each leads, and which keys can serve it.
 
-ghost use Rattle.std.specs.Prelude.{◌≡◌, ◌++◌, [], ◌∷◌, IfErr, IfOk, OnOk};
-ghost use Rattle.base_core.specs.declared.refusal.Refusal.TheVariants.{Memory};
+ghost use Rattle.std.specs.Prelude.{◌≡◌, ◌++◌, [], ◌∷◌, IfOk, OnOk};
 ghost use Rattle.class_sides.specs.Sides.{side_of, sides_at, sides_of, target_of};
 
 use crate::candidates::candidates_of;
 use crate::ends::ends_of;
-use base_core::{ClassId, Copied, ListOf, Refusal};
+use base_core::{ClassId, Copied, ListOf};
 use class_blocks::Side;
 use class_layouts::{Classes, Layout, number_of, place_of};
 use class_types::{ClassSpec, RelationSpec};
 use schema_core::Schema;
-use std::alloc::Global;
+use std::alloc::{AllocError, Global};
 
 /// The class to which a relationship leads, if it is declared.
-fn target_of(specs: &[ClassSpec], relation: &RelationSpec) -> Result<Option<ClassId>, Refusal>
-    ensures ok { IfOk result (λ target. target ≡ target_of specs.now relation.now) }
-    ensures err { IfErr result (λ e. e ≡ Memory) }
+fn target_of(specs: &[ClassSpec], relation: &RelationSpec) -> Result<Option<ClassId>, AllocError>
+    ensures { IfOk result (λ target. target ≡ target_of specs.now relation.now) }
 {
     match place_of(specs, &relation.target) {
         Some(place) => Ok(Some(ClassId(number_of(place)?))),
@@ -33,10 +31,9 @@ fn push_side(
     layouts: &[Layout],
     class: usize,
     relation: &RelationSpec,
-) -> Result<(), Refusal>
-    ensures ok { OnOk result (all.new ≡ all.old
+) -> Result<(), AllocError>
+    ensures { OnOk result (all.new ≡ all.old
         ++ side_of schema.now.tables classes.now layouts.now class relation.now ∷ []) }
-    ensures err { IfErr result (λ e. e ≡ Memory) }
 {
     let specs = classes.specs.as_slice();
     let class = ClassId(number_of(class)?);
@@ -69,10 +66,9 @@ fn push_sides(
     layouts: &[Layout],
     class: usize,
     spec: &ClassSpec,
-) -> Result<(), Refusal>
-    ensures ok { OnOk result (all.new
+) -> Result<(), AllocError>
+    ensures { OnOk result (all.new
         ≡ all.old ++ sides_at schema.now.tables classes.now layouts.now (class, spec.now)) }
-    ensures err { IfErr result (λ e. e ≡ Memory) }
 {
     for relation in spec.relations.as_slice() {
         push_side(all, alloc, schema, classes, layouts, class, relation)?;
@@ -87,9 +83,8 @@ pub fn sides_of(
     schema: &Schema,
     classes: &Classes,
     layouts: &[Layout],
-) -> Result<ListOf<Side>, Refusal>
-    ensures ok { IfOk result (λ all. all ≡ sides_of schema.now.tables classes.now layouts.now) }
-    ensures err { IfErr result (λ e. e ≡ Memory) }
+) -> Result<ListOf<Side>, AllocError>
+    ensures { IfOk result (λ all. all ≡ sides_of schema.now.tables classes.now layouts.now) }
 {
     let specs = classes.specs.as_slice();
     let mut all = ListOf::new(alloc);

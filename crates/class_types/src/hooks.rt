@@ -4,8 +4,8 @@ ghost use Rattle.std.specs.Prelude.{◌≡◌, length, vec_len};
 
 use crate::check::place_of;
 use crate::validator::Validator;
-use base_core::{Kind, ListOf, Name, Refusal};
-use std::alloc::Global;
+use base_core::{Kind, ListOf, Name};
+use std::alloc::{AllocError, Global};
 
 /// Validators, each under its name.
 pub struct Hooks {
@@ -25,8 +25,7 @@ impl Drop for Hooks {
 }
 
 impl Hooks {
-    ghost use Rattle.std.specs.Prelude.{[], IfErr, OnErr, OnOk};
-    ghost use Rattle.base_core.specs.declared.refusal.Refusal.TheVariants.{Memory};
+    ghost use Rattle.std.specs.Prelude.{[], OnErr, OnOk};
     ghost use Rattle.class_types.specs.Rules.{validation_of, kind_of, with_rule};
     ghost use Rattle.class_types.specs.Shown.{rules_of};
 
@@ -40,14 +39,13 @@ impl Hooks {
         }
     }
 
-    /// Adds a validator under a name; it takes the place of an earlier one of this name.
-    /// The only refusal is `Memory`, and it leaves the validators as they were.
-    pub fn put(&mut self, name: Name, validator: Validator) -> Result<(), Refusal>
+    /// Adds a validator under a name; it takes the place of an earlier one of this name. Where memory runs out it leaves the
+    /// validators as they were.
+    pub fn put(&mut self, name: Name, validator: Validator) -> Result<(), AllocError>
         ensures ok { OnOk result
             (rules_of self.new
             ≡ with_rule (rules_of self.old) name (validation_of validator.kind validator.rule)) }
         ensures err { OnErr result (rules_of self.new ≡ rules_of self.old) }
-        ensures cause { IfErr result (λ e. e ≡ Memory) }
     {
         match place_of(self.names.as_slice(), &name) {
             Some(place) => {

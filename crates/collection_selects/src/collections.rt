@@ -1,11 +1,10 @@
 //! The selects of the members of collections. The only refusal is `Memory`.
 
-ghost use Rattle.std.specs.Prelude.{◌≡◌, true, length, IfOk, IfErr};
-ghost use Rattle.base_core.specs.declared.refusal.Refusal.TheVariants.{Memory};
+ghost use Rattle.std.specs.Prelude.{◌≡◌, length, IfOk};
 ghost use Rattle.class_mapping.specs.Mapped.{IsClass, tables_of};
 ghost use Rattle.collection_selects.specs.Collections as spec;
 
-use base_core::{Key, ListOf, Refusal};
+use base_core::{Key, ListOf};
 use class_layouts::number_of;
 use class_mapping::{Mapping, Relation};
 use class_sides::TableKey;
@@ -18,19 +17,17 @@ use load_selects::{
     Further, class_rows, is_of_branch, leading_table, led_from, other_tables, push_other_tables,
     referred_place, refers, select_of,
 };
-use std::alloc::Global;
+use std::alloc::{AllocError, Global};
 
 /// The columns by which the rows of the target of a one-to-many relationship refer to their owners.
 fn owner_columns(
     alloc: Global,
     mapping: &Mapping,
     relation: &Relation,
-) -> Result<ListOf<SourceColumn>, Refusal>
+) -> Result<ListOf<SourceColumn>, AllocError>
     requires target { IsClass mapping.now relation.now.target }
-    requires configured { mapping.now.configured ≡ true }
-    ensures columns { IfOk result
+    ensures { IfOk result
         (λ columns. columns ≡ spec.owner_columns mapping.now relation.now) }
-    ensures cause { IfErr result (λ e. e ≡ Memory) }
 {
     let table = relation.foreign.0;
     let place = place_of_table(mapping, relation.target, from_root(0), table)?;
@@ -44,22 +41,19 @@ fn pair_columns(
     mapping: &Mapping,
     relation: &Relation,
     place: u32,
-) -> Result<ListOf<SourceColumn>, Refusal>
-    ensures columns { IfOk result
+) -> Result<ListOf<SourceColumn>, AllocError>
+    ensures { IfOk result
         (λ columns. columns ≡ spec.pair_columns mapping.now relation.now place) }
-    ensures cause { IfErr result (λ e. e ≡ Memory) }
 {
     let numbers = foreign_numbers(alloc, mapping, relation.foreign)?;
     columns_at(alloc, place, numbers.as_slice())
 }
 
 /// How many tables the target has.
-fn target_count(mapping: &Mapping, relation: &Relation) -> Result<u32, Refusal>
+fn target_count(mapping: &Mapping, relation: &Relation) -> Result<u32, AllocError>
     requires target { IsClass mapping.now relation.now.target }
-    requires configured { mapping.now.configured ≡ true }
-    ensures count { IfOk result
+    ensures { IfOk result
         (λ count. count ≡ length (tables_of mapping.now relation.now.target)) }
-    ensures cause { IfErr result (λ e. e ≡ Memory) }
 {
     number_of(mapping.tables_of(relation.target).len())
 }
@@ -71,12 +65,10 @@ fn secondary_behind(
     relation: &Relation,
     far: TableKey,
     place: u32,
-) -> Result<Further, Refusal>
+) -> Result<Further, AllocError>
     requires target { IsClass mapping.now relation.now.target }
-    requires configured { mapping.now.configured ≡ true }
-    ensures source { IfOk result (λ further. further
+    ensures { IfOk result (λ further. further
         ≡ spec.secondary_behind mapping.now relation.now far place) }
-    ensures cause { IfErr result (λ e. e ≡ Memory) }
 {
     let referred = referred_place(mapping, relation.target, from_root(0), far)?;
     Ok(Further {
@@ -92,12 +84,10 @@ fn pair_members(
     relation: &Relation,
     far: TableKey,
     conditions: ExprList,
-) -> Result<Select, Refusal>
+) -> Result<Select, AllocError>
     requires target { IsClass mapping.now relation.now.target }
-    requires configured { mapping.now.configured ≡ true }
-    ensures select { IfOk result
+    ensures { IfOk result
         (λ s. s ≡ spec.pair_members mapping.now relation.now far conditions) }
-    ensures cause { IfErr result (λ e. e ≡ Memory) }
 {
     let target = relation.target;
     let place = target_count(mapping, relation)?;
@@ -122,12 +112,10 @@ fn referring_members(
     mapping: &Mapping,
     relation: &Relation,
     key: &Key,
-) -> Result<Select, Refusal>
+) -> Result<Select, AllocError>
     requires target { IsClass mapping.now relation.now.target }
-    requires configured { mapping.now.configured ≡ true }
-    ensures select { IfOk result
+    ensures { IfOk result
         (λ s. s ≡ spec.referring_members mapping.now relation.now key.now) }
-    ensures cause { IfErr result (λ e. e ≡ Memory) }
 {
     let columns = owner_columns(alloc, mapping, relation)?;
     let conditions = has_values(alloc, columns.as_slice(), key.as_slice())?;
@@ -141,12 +129,10 @@ fn paired_members(
     relation: &Relation,
     far: TableKey,
     key: &Key,
-) -> Result<Select, Refusal>
+) -> Result<Select, AllocError>
     requires target { IsClass mapping.now relation.now.target }
-    requires configured { mapping.now.configured ≡ true }
-    ensures select { IfOk result
+    ensures { IfOk result
         (λ s. s ≡ spec.paired_members mapping.now relation.now far key.now) }
-    ensures cause { IfErr result (λ e. e ≡ Memory) }
 {
     let place = target_count(mapping, relation)?;
     let columns = pair_columns(alloc, mapping, relation, place)?;
@@ -161,12 +147,10 @@ pub fn members_select(
     mapping: &Mapping,
     relation: &Relation,
     key: &Key,
-) -> Result<Select, Refusal>
+) -> Result<Select, AllocError>
     requires target { IsClass mapping.now relation.now.target }
-    requires configured { mapping.now.configured ≡ true }
-    ensures select { IfOk result
+    ensures { IfOk result
         (λ s. s ≡ spec.members_select mapping.now relation.now key.now) }
-    ensures cause { IfErr result (λ e. e ≡ Memory) }
 {
     match relation.far {
         Some(far) => paired_members(alloc, mapping, relation, far, key),
@@ -180,12 +164,10 @@ fn member_sources(
     mapping: &Mapping,
     relation: &Relation,
     far: TableKey,
-) -> Result<ListOf<Further>, Refusal>
+) -> Result<ListOf<Further>, AllocError>
     requires target { IsClass mapping.now relation.now.target }
-    requires configured { mapping.now.configured ≡ true }
-    ensures sources { IfOk result
+    ensures { IfOk result
         (λ further. further ≡ spec.member_sources mapping.now relation.now far) }
-    ensures cause { IfErr result (λ e. e ≡ Memory) }
 {
     let placement = led_from(mapping, relation, 1)?;
     let mut further = ListOf::new(alloc);
@@ -204,12 +186,10 @@ fn pairs_select(
     relation: &Relation,
     far: TableKey,
     conditions: ExprList,
-) -> Result<Select, Refusal>
+) -> Result<Select, AllocError>
     requires target { IsClass mapping.now relation.now.target }
-    requires configured { mapping.now.configured ≡ true }
-    ensures select { IfOk result
+    ensures { IfOk result
         (λ s. s ≡ spec.pairs_select mapping.now relation.now far conditions) }
-    ensures cause { IfErr result (λ e. e ≡ Memory) }
 {
     let target = relation.target;
     let placement = led_from(mapping, relation, 1)?;
@@ -235,12 +215,10 @@ fn referring_batch(
     mapping: &Mapping,
     relation: &Relation,
     keys: &[Key],
-) -> Result<Select, Refusal>
+) -> Result<Select, AllocError>
     requires target { IsClass mapping.now relation.now.target }
-    requires configured { mapping.now.configured ≡ true }
-    ensures select { IfOk result
+    ensures { IfOk result
         (λ s. s ≡ spec.referring_batch mapping.now relation.now keys.now) }
-    ensures cause { IfErr result (λ e. e ≡ Memory) }
 {
     let columns = owner_columns(alloc, mapping, relation)?;
     let conditions = has_one_of(alloc, columns.as_slice(), keys)?;
@@ -254,12 +232,10 @@ fn paired_batch(
     relation: &Relation,
     far: TableKey,
     keys: &[Key],
-) -> Result<Select, Refusal>
+) -> Result<Select, AllocError>
     requires target { IsClass mapping.now relation.now.target }
-    requires configured { mapping.now.configured ≡ true }
-    ensures select { IfOk result
+    ensures { IfOk result
         (λ s. s ≡ spec.paired_batch mapping.now relation.now far keys.now) }
-    ensures cause { IfErr result (λ e. e ≡ Memory) }
 {
     let columns = pair_columns(alloc, mapping, relation, 0)?;
     let conditions = has_one_of(alloc, columns.as_slice(), keys)?;
@@ -274,12 +250,10 @@ pub fn batch_select(
     mapping: &Mapping,
     relation: &Relation,
     keys: &[Key],
-) -> Result<Select, Refusal>
+) -> Result<Select, AllocError>
     requires target { IsClass mapping.now relation.now.target }
-    requires configured { mapping.now.configured ≡ true }
-    ensures select { IfOk result
+    ensures { IfOk result
         (λ s. s ≡ spec.batch_select mapping.now relation.now keys.now) }
-    ensures cause { IfErr result (λ e. e ≡ Memory) }
 {
     match relation.far {
         Some(far) => paired_batch(alloc, mapping, relation, far, keys),

@@ -1,6 +1,6 @@
 //! Whether values are of the kinds of attributes.
 
-ghost use Rattle.std.specs.Prelude.{◌≡◌, true, IfSome};
+ghost use Rattle.std.specs.Prelude.{◌≡◌, IfSome};
 ghost use Rattle.schema_core.specs.Refusals.{kind_fault};
 ghost use Rattle.class_mapping.specs.Mapped.{IsAttribute, IsClass};
 ghost use Rattle.script_resolve.specs.Refusals.{CanRefuse};
@@ -29,7 +29,6 @@ pub fn value_fault(
     attr: AttrNo,
     value: &Value,
 ) -> Option<Refusal>
-    requires configured { mapping.now.configured ≡ true }
     requires class { IsClass mapping.now class }
     requires attr { IsAttribute mapping.now class attr }
     ensures fault { result ≡ spec.value_fault mapping.now class attr value.now }

@@ -1,6 +1,6 @@
 //! The values of a new object.
 
-ghost use Rattle.std.specs.Prelude.{◌≡◌, [], true, None, IfErr, IfOk, IfSome};
+ghost use Rattle.std.specs.Prelude.{◌≡◌, [], None, IfErr, IfOk, IfSome};
 ghost use Rattle.std.specs.List.{All};
 ghost use Rattle.base_core.specs.Answers.{Gives};
 ghost use Rattle.class_mapping.specs.Mapped.{IsAttribute, IsClass};
@@ -34,7 +34,6 @@ fn attribute_given(
     before: &[(Name, Value)],
     name: &Name,
 ) -> Result<AttrNo, Refusal>
-    requires configured { mapping.now.configured ≡ true }
     requires class { IsClass mapping.now class }
     ensures attribute { Gives (λ attr. attr) result
         (spec.attribute_given mapping.now class before.now name.now) }
@@ -56,7 +55,6 @@ fn cells_named(
     class: ClassId,
     given: &[(Name, Value)],
 ) -> Result<Cells, Refusal>
-    requires configured { mapping.now.configured ≡ true }
     requires class { IsClass mapping.now class }
     ensures cells { Gives (λ cells. cells) result
         (spec.cells_behind mapping.now class [] given.now) }
@@ -73,7 +71,6 @@ fn cells_named(
 
 /// The fault of the first value of another kind than its attribute.
 fn cells_fault(mapping: &Mapping, class: ClassId, cells: &[(AttrNo, Value)]) -> Option<Refusal>
-    requires configured { mapping.now.configured ≡ true }
     requires class { IsClass mapping.now class }
     requires exist { All (λ cell. IsAttribute mapping.now class cell.0) cells.now }
     ensures fault { result ≡ spec.cells_fault mapping.now class cells.now }
@@ -98,7 +95,6 @@ pub fn cells_of(
     class: ClassId,
     given: &[(Name, Value)],
 ) -> Result<Cells, Refusal>
-    requires configured { mapping.now.configured ≡ true }
     requires class { IsClass mapping.now class }
     ensures cells { Gives (λ cells. cells) result (spec.cells_of mapping.now class given.now) }
     ensures cause { IfErr result CanRefuse }

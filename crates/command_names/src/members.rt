@@ -1,6 +1,6 @@
 //! Classes, and their attributes and relationships by their names.
 
-ghost use Rattle.std.specs.Prelude.{◌≡◌, ◌<◌, length, true, IfErr, IfOk, IfSome};
+ghost use Rattle.std.specs.Prelude.{◌≡◌, ◌<◌, length, IfErr, IfOk, IfSome};
 ghost use Rattle.std.specs.List.{position};
 ghost use Rattle.base_core.specs.Answers.{Gives};
 ghost use Rattle.schema_core.specs.Catalog.{same_name};
@@ -83,7 +83,6 @@ fn link_or_unknown(relations: &[Relation], name: &Name) -> Result<Member, Refusa
 /// # Errors
 /// `Unknown`, and `Memory`.
 pub fn member_named(mapping: &Mapping, class: ClassId, name: &Name) -> Result<Member, Refusal>
-    requires configured { mapping.now.configured ≡ true }
     requires class { IsClass mapping.now class }
     ensures member { Gives (λ member. member) result
         (spec.member_named mapping.now class name.now) }
@@ -105,7 +104,6 @@ pub(crate) fn attribute_named(
     class: ClassId,
     name: &Name,
 ) -> Result<AttrNo, Refusal>
-    requires configured { mapping.now.configured ≡ true }
     requires class { IsClass mapping.now class }
     ensures attribute { Gives (λ attr. attr) result
         (spec.attribute_named mapping.now class name.now) }
@@ -154,7 +152,6 @@ pub fn link_named(
     class: ClassId,
     name: &Name,
 ) -> Result<RelNo, Refusal>
-    requires configured { mapping.now.configured ≡ true }
     requires class { IsClass mapping.now class }
     ensures relation { Gives (λ relation. relation) result
         (spec.link_named mapping.now many class name.now) }

@@ -2,7 +2,7 @@
 
 ghost use Rattle.std.specs.Prelude.{◌≡◌, ℕ, Some, IfOk, IfErr};
 ghost use Rattle.base_core.specs.Answers.{Gives};
-ghost use Rattle.base_core.specs.declared.refusal.Refusal.TheVariants.{InvalidRequestError, Memory};
+ghost use Rattle.base_core.specs.declared.refusal.Refusal.TheVariants.{InvalidRequestError};
 ghost use Rattle.base_core.specs.declared.refusal.RequestKind.TheVariants.{Unknown};
 ghost use Rattle.class_mapping.specs.Mapped.{IsClass, Mapped};
 ghost use Rattle.object_arena.specs.Graph.{Graph};
@@ -97,13 +97,12 @@ pub fn object_of(names: &Names, term: &Term) -> Result<(ObjId, ClassId), Refusal
     }
 }
 
-/// A copy of a list of objects. The only refusal is `Memory`.
+/// A copy of a list of objects.
 fn members_copied(
     alloc: Global,
     members: &[(ObjId, ClassId)],
-) -> Result<ListOf<(ObjId, ClassId)>, Refusal>
-    ensures ok { IfOk result (λ copy. copy ≡ members.now) }
-    ensures cause { IfErr result (λ e. e ≡ Memory) }
+) -> Result<ListOf<(ObjId, ClassId)>, AllocError>
+    ensures { IfOk result (λ copy. copy ≡ members.now) }
 {
     let mut copy = ListOf::new(alloc);
     for member in members {

@@ -1,6 +1,6 @@
 //! Lines that change links.
 
-ghost use Rattle.std.specs.Prelude.{◌≡◌, ℕ, true, IfErr, IfOk};
+ghost use Rattle.std.specs.Prelude.{ℕ, true, IfErr, IfOk};
 ghost use Rattle.base_core.specs.Answers.{Gives};
 ghost use Rattle.object_arena.specs.Graph.{Graph, IsObject};
 ghost use Rattle.script_resolve.specs.Refusals.{CanRefuse};
@@ -27,7 +27,6 @@ fn ends_of(
     member: &Name,
     other: &Term,
 ) -> Result<(ObjId, RelNo, ObjId), Refusal>
-    requires configured { mapping.now.configured ≡ true }
     requires declared { AreOfDeclared mapping.now names.now }
     ensures ends { Gives (λ ends. ends) result
         (spec.ends_of mapping.now names.now many term.now member.now other.now) }
@@ -49,7 +48,6 @@ pub(crate) fn resolved_set_one(
     member: &Name,
     other: &Term,
 ) -> Result<Resolved, Refusal>
-    requires configured { mapping.now.configured ≡ true }
     requires declared { AreOfDeclared mapping.now names.now }
     ensures line { Gives (λ line. line) result
         (spec.resolved_set_one mapping.now names.now term.now member.now other.now) }
@@ -73,7 +71,6 @@ pub(crate) fn resolved_append(
     member: &Name,
     other: &Term,
 ) -> Result<Resolved, Refusal>
-    requires configured { mapping.now.configured ≡ true }
     requires declared { AreOfDeclared mapping.now names.now }
     ensures line { Gives (λ line. line) result
         (spec.resolved_append mapping.now names.now term.now member.now other.now) }
@@ -97,7 +94,6 @@ pub(crate) fn resolved_remove(
     member: &Name,
     other: &Term,
 ) -> Result<Resolved, Refusal>
-    requires configured { mapping.now.configured ≡ true }
     requires declared { AreOfDeclared mapping.now names.now }
     ensures line { Gives (λ line. line) result
         (spec.resolved_remove mapping.now names.now term.now member.now other.now) }

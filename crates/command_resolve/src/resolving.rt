@@ -1,6 +1,6 @@
 //! What a line asks for.
 
-ghost use Rattle.std.specs.Prelude.{◌≡◌, ℕ, true, false, IfErr, IfOk};
+ghost use Rattle.std.specs.Prelude.{◌≡◌, ℕ, false, IfErr, IfOk};
 ghost use Rattle.base_core.specs.Answers.{Gives};
 ghost use Rattle.base_core.specs.declared.ids.ClassId.{ClassId};
 ghost use Rattle.class_mapping.specs.Mapped.{IsAttribute, IsClass, Mapped};
@@ -37,7 +37,6 @@ fn resolved_new(
     class: &Name,
     given: &[(Name, Value)],
 ) -> Result<Resolved, Refusal>
-    requires configured { mapping.now.configured ≡ true }
     ensures line { Gives (λ line. line) result
         (spec.resolved_new mapping.now name.now class.now given.now) }
     ensures cause { IfErr result CanRefuse }
@@ -61,7 +60,6 @@ fn resolved_set(
     member: &Name,
     value: &Value,
 ) -> Result<Resolved, Refusal>
-    requires configured { mapping.now.configured ≡ true }
     requires declared { AreOfDeclared mapping.now names.now }
     ensures line { Gives (λ line. line) result
         (spec.resolved_set mapping.now names.now term.now member.now value.now) }
@@ -85,7 +83,6 @@ fn set_cell(
     attr: AttrNo,
     value: &Value,
 ) -> Result<Resolved, Refusal>
-    requires configured { mapping.now.configured ≡ true }
     requires class { IsClass mapping.now class }
     requires attr { IsAttribute mapping.now class attr }
     ensures line { Gives (λ line. line) result
@@ -129,7 +126,6 @@ fn resolved_show(
     term: &Term,
     member: &Name,
 ) -> Result<Resolved, Refusal>
-    requires configured { mapping.now.configured ≡ true }
     requires declared { AreOfDeclared mapping.now names.now }
     ensures line { Gives (λ line. line) result
         (spec.resolved_show mapping.now names.now term.now member.now) }
@@ -204,7 +200,6 @@ pub fn resolve(
     names: &Names,
     command: &Command,
 ) -> Result<Resolved, Refusal>
-    requires configured { mapping.now.configured ≡ true }
     requires declared { AreOfDeclared mapping.now names.now }
     requires sayable { IsSayable command.now }
     ensures line { Gives (λ line. line) result

@@ -1,12 +1,11 @@
 //! The normal form.
 
-ghost use Rattle.std.specs.Prelude.{◌≡◌, map, reverse, Ok, IfOk};
-ghost use Rattle.base_core.specs.Answers.{Gives};
+ghost use Rattle.std.specs.Prelude.{◌≡◌, map, reverse, IfOk};
 ghost use Rattle.expr_types.specs.Normal as spec;
 ghost use Rattle.expr_types.specs.declared.expr.Expr.TheVariants as expr;
 
 use crate::level::{and_list, called, liked, negated, or_list};
-use base_core::{Refusal, both};
+use base_core::both;
 use expr_types::Expr;
 use sqlite_items::{Boxed, Items};
 use std::alloc::{AllocError, Global};
@@ -86,21 +85,21 @@ fn reversed(alloc: Global, operands: Items<Expr>) -> Result<Items<Expr>, AllocEr
 
 /// The normal form: `not` over a comparison, a null test, `like`, `ilike`, `in`, `between`, `is distinct from` or
 /// `exists` becomes the opposite operator, `not not x` is x, an `and` in an `and` and an `or` in an `or` become one
-/// list, and `lower(a) like lower(b)` becomes `a ilike b`. The only refusal is `Memory`.
+/// list, and `lower(a) like lower(b)` becomes `a ilike b`.
 #[tactic(auto, using(crate::proofs::Fixed::normal_again))]
-pub fn normal(alloc: Global, e: Expr) -> Result<Expr, Refusal>
-    ensures form { Gives (λ n. n) result (Ok (spec.normal e)) }
+pub fn normal(alloc: Global, e: Expr) -> Result<Expr, AllocError>
+    ensures form { IfOk result (λ n. n ≡ spec.normal e) }
     // The normal form of a normal form is itself.
     ensures fixed { IfOk result (λ n. spec.normal n ≡ n) }
 {
-    Ok(form(alloc, e)?)
+    form(alloc, e)
 }
 
-/// The normal form of `not e`. The only refusal is `Memory`.
+/// The normal form of `not e`.
 #[tactic(auto, using(crate::proofs::Negates::normal_of_not, crate::proofs::Negates::negated_again))]
-pub fn negate(alloc: Global, e: Expr) -> Result<Expr, Refusal>
-    ensures form { Gives (λ n. n) result (Ok (spec.normal (expr.Not e))) }
+pub fn negate(alloc: Global, e: Expr) -> Result<Expr, AllocError>
+    ensures form { IfOk result (λ n. n ≡ spec.normal (expr.Not e)) }
     ensures fixed { IfOk result (λ n. spec.normal n ≡ n) }
 {
-    Ok(negated(alloc, form(alloc, e)?)?)
+    negated(alloc, form(alloc, e)?)
 }

@@ -1,2 +1,3 @@
 pub mod Aggregates
+pub mod Items
 pub mod Refused

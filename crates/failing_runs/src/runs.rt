@@ -45,12 +45,22 @@ pub fn only(kind: &str, number: u64) -> Failing {
 }
 
 /// A run of a script: what it is read from and what it is answered to, and how it ended.
-#[derive(Drop)]
 pub struct Run {
     alloc: Global,
     source: MemSource,
     pub sink: MemSink,
     pub status: Status,
+}
+
+impl Drop for Run {
+    fn drop(self) {
+        let Run {
+            alloc: _,
+            source: _,
+            sink: _,
+            status: _,
+        } = self;
+    }
 }
 
 impl OverKeepers for Run {

@@ -1,7 +1,6 @@
 //! For each row those for which it waits, found by the keys that it names.
 
-ghost use Rattle.std.specs.Prelude.{◌≡◌, ◌<◌, ◌≤◌, ◌++◌, length, IfOk, IfErr, OnOk};
-ghost use Rattle.base_core.specs.declared.refusal.Refusal.TheVariants.{Memory};
+ghost use Rattle.std.specs.Prelude.{◌≡◌, ◌<◌, ◌≤◌, ◌++◌, length, IfOk, OnOk};
 ghost use Rattle.row_order.specs.Lists.{AreListsOf, AreTold};
 ghost use Rattle.flush_order.specs.Index.{IsIndexOf, gone_place, gone_targets, new_blockers, new_place, rows_taken};
 ghost use Rattle.flush_order.specs.Orders.{gone_at, gone_rows};
@@ -10,7 +9,7 @@ ghost use Rattle.flush_order.specs.Refers.{gone_refers, new_refers};
 
 use crate::index::{Index, enter, push_referred};
 use crate::refers::{GoneRows, NewRows};
-use base_core::{ListOf, Refusal};
+use base_core::ListOf;
 use row_order::waiting_of;
 use schema_core::RowCell;
 use std::alloc::{AllocError, Global};
@@ -61,11 +60,10 @@ fn new_blockers(
 
 #[tactic(auto, using(crate::proofs::IndexSteps::index_first))]
 /// The new rows by table and key, as far as it is known.
-fn new_index(alloc: Global, new: &NewRows) -> Result<Index, Refusal>
+fn new_index(alloc: Global, new: &NewRows) -> Result<Index, AllocError>
     requires ready { AreReady new.now.schema.now new.now.changes.now new.now.rows.now }
-    ensures index { IfOk result (λ index. IsIndexOf
+    ensures { IfOk result (λ index. IsIndexOf
         (new_place new.now.schema.now new.now.changes.now) (length new.now.rows.now) index) }
-    ensures cause { IfErr result (λ e. e ≡ Memory) }
 {
     let mut index = BTreeMap::new(alloc);
     for place in 0..new.rows.len() as u32 {
@@ -91,14 +89,13 @@ fn new_told(alloc: Global, new: &NewRows, index: &Index) -> Result<Vec<ListOf<u3
 }
 
 #[tactic(auto, using(crate::proofs::Listing::new_are_listed))]
-/// For each new row those for which it waits. The only refusal is `Memory`.
-pub(crate) fn new_lists(alloc: Global, new: &NewRows) -> Result<Vec<ListOf<u32>>, Refusal>
+/// For each new row those for which it waits.
+pub(crate) fn new_lists(alloc: Global, new: &NewRows) -> Result<Vec<ListOf<u32>>, AllocError>
     requires ready { AreReady new.now.schema.now new.now.changes.now new.now.rows.now }
     ensures lists { IfOk result
         (λ lists. AreListsOf (new_refers new.now.schema.now new.now.changes.now)
         (length new.now.changes.now.fresh) lists.items) }
     ensures fewer { IfOk result (λ lists. length lists.items ≤ 4294967295) }
-    ensures cause { IfErr result (λ e. e ≡ Memory) }
 {
     let index = new_index(alloc, new)?;
     Ok(new_told(alloc, new, &index)?)
@@ -134,11 +131,10 @@ fn gone_targets(
 
 #[tactic(auto, using(crate::proofs::IndexSteps::index_first))]
 /// The deleted rows by table and key.
-fn gone_index(alloc: Global, gone: &GoneRows) -> Result<Index, Refusal>
+fn gone_index(alloc: Global, gone: &GoneRows) -> Result<Index, AllocError>
     requires ready { AreReadyGone gone.now.schema.now gone.now.changes.now gone.now.rows.now }
-    ensures index { IfOk result (λ index. IsIndexOf
+    ensures { IfOk result (λ index. IsIndexOf
         (gone_place gone.now.schema.now gone.now.changes.now) (length gone.now.rows.now) index) }
-    ensures cause { IfErr result (λ e. e ≡ Memory) }
 {
     let mut index = BTreeMap::new(alloc);
     for place in 0..gone.rows.len() as u32 {
@@ -163,8 +159,8 @@ fn gone_told(alloc: Global, gone: &GoneRows, index: &Index) -> Result<Vec<ListOf
     Ok(lists)
 }
 
-/// For each deleted row those for which it waits: those that refer to it. The only refusal is `Memory`.
-pub(crate) fn gone_lists(alloc: Global, gone: &GoneRows) -> Result<Vec<ListOf<u32>>, Refusal>
+/// For each deleted row those for which it waits: those that refer to it.
+pub(crate) fn gone_lists(alloc: Global, gone: &GoneRows) -> Result<Vec<ListOf<u32>>, AllocError>
     requires ready { AreReadyGone gone.now.schema.now gone.now.changes.now gone.now.rows.now }
     ensures lists { IfOk result (λ lists. AreListsOf
         (λ row other. gone_refers gone.now.schema.now gone.now.changes.now
@@ -172,7 +168,6 @@ pub(crate) fn gone_lists(alloc: Global, gone: &GoneRows) -> Result<Vec<ListOf<u3
         (gone_at (gone_rows gone.now.schema.now gone.now.changes.now) other))
         (length (gone_rows gone.now.schema.now gone.now.changes.now)) lists.items) }
     ensures fewer { IfOk result (λ lists. length lists.items ≤ 4294967295) }
-    ensures cause { IfErr result (λ e. e ≡ Memory) }
 {
     let index = gone_index(alloc, gone)?;
     let targets = gone_told(alloc, gone, &index)?;

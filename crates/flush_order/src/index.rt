@@ -1,15 +1,14 @@
 //! Rows by table and key, and those to which a row refers.
 
-ghost use Rattle.std.specs.Prelude.{◌≡◌, ◌++◌, [], ◌∷◌, map, IfErr, OnOk, if◌then◌else◌};
+ghost use Rattle.std.specs.Prelude.{◌≡◌, ◌++◌, [], ◌∷◌, map, OnOk, if◌then◌else◌};
 ghost use Rattle.std.specs.Option.{unwrap_or};
-ghost use Rattle.base_core.specs.declared.refusal.Refusal.TheVariants.{Memory};
 ghost use Rattle.schema_core.specs.Catalog.{IsTable};
 ghost use Rattle.schema_core.specs.Tables.{cell_of};
 ghost use Rattle.flush_order.specs.Index.{rows_named, rows_referred, rows_under};
 ghost use Rattle.flush_order.specs.Sorted.{Place, same_place};
 
 use crate::cells::{cell_of, has_null_in, push_value};
-use base_core::{Copied, Key, ListOf, Name, Refusal, TableId, Value};
+use base_core::{Copied, Key, ListOf, Name, TableId, Value};
 use schema_core::{ColumnSpec, ForeignSpec, Schema};
 use std::alloc::{AllocError, Global};
 use std::collections::BTreeMap;
@@ -34,11 +33,10 @@ pub(crate) fn enter(
     table: TableId,
     key: &Key,
     row: u32,
-) -> Result<(), Refusal>
-    ensures entered { OnOk result ((wanted : Place)
+) -> Result<(), AllocError>
+    ensures { OnOk result ((wanted : Place)
         → rows_under index.new wanted ≡ rows_under index.old wanted
         ++ (if same_place (table, key.now) wanted then row ∷ [] else [])) }
-    ensures cause { IfErr result (λ e. e ≡ Memory) }
 {
     let place = (table, key.copied()?);
     let mut rows = rows_found(alloc, index.remove(&place));

@@ -9,10 +9,10 @@ ghost use Rattle.flush_order.specs.Ready.{AreReady, AreReadyGone, ready_gone, re
 
 use crate::blockers::{gone_lists, new_lists};
 use crate::cells::{are_cells, has_null_in, some_comes_from};
-use base_core::{Key, ListOf, Refusal, RowName, RowValues, TableId, Value};
+use base_core::{Key, ListOf, RowName, RowValues, TableId, Value};
 use row_order::Waits;
 use schema_core::{ForeignSpec, RowCell, RowChanges, Schema, TableSpec};
-use std::alloc::Global;
+use std::alloc::{AllocError, Global};
 
 /// Whether a foreign key refers to this table.
 fn is_target(schema: &Schema, foreign: &ForeignSpec, table: TableId) -> bool
@@ -133,7 +133,7 @@ impl<'a> Waits for NewRows<'a> {
             )
     }
 
-    fn lists(&self, alloc: Global) -> Result<Vec<ListOf<u32>>, Refusal> {
+    fn lists(&self, alloc: Global) -> Result<Vec<ListOf<u32>>, AllocError> {
         new_lists(alloc, self)
     }
 }
@@ -200,7 +200,7 @@ impl<'a> Waits for GoneRows<'a> {
         )
     }
 
-    fn lists(&self, alloc: Global) -> Result<Vec<ListOf<u32>>, Refusal> {
+    fn lists(&self, alloc: Global) -> Result<Vec<ListOf<u32>>, AllocError> {
         gone_lists(alloc, self)
     }
 }

@@ -1,10 +1,7 @@
 -- The parts of a plan, one behind another, and what is made of the order of deleted rows.
-use Rattle.std.proofs.Common.{◌≡◌, ◌<◌, ℕ, List, ◌++◌, length, map, Result, Ok, Err, sym, ap, ◌∙◌, subst}
-use Rattle.std.specs.Prelude.{IfOk, IfErr}
+use Rattle.std.proofs.Common.{◌≡◌, ◌<◌, ℕ, List, ◌++◌, length, map, Ok, Err, sym, ap, ◌∙◌, subst}
 use Rattle.std.specs.List.{All}
-use Rattle.base_core.specs.Answers.{Gives, Refuses}
-use Rattle.base_core.specs.declared.refusal.Refusal.{Refusal}
-use Rattle.base_core.specs.declared.refusal.Refusal.TheVariants.{CircularDependencyError, Memory}
+use Rattle.base_core.specs.declared.refusal.Refusal.TheVariants.{CircularDependencyError}
 use Rattle.base_core.specs.declared.refusal.RowName.{RowName}
 use Rattle.schema_core.specs.declared.changes.Planned.{Planned}
 use Rattle.schema_core.specs.declared.changes.RowChanges.{RowChanges}
@@ -29,13 +26,10 @@ pub rows_within : (schema : Catalog) (changes : RowChanges) (ready slice : List 
 rows_within schema changes ready slice ordered rows list are lent of same within =
     subst (All (λ row. row < length slice)) (of ∙ sym same) (subst (λ n. All (λ row. row < n) (rows_of ordered)) (sym (ap length lent ∙ gone_size schema changes ready are)) within)
 
-pub planned : (schema : Catalog) (changes : RowChanges) (new_order rows list : List ℕ) (ordered : Ordered) (result : Result (List Planned) Refusal) → order_result ordered ≡ delete_order schema changes (gone_rows schema changes) → order_result ordered ≡ Ok rows → list ≡ rows
-    → IfOk result (λ plan. plan ≡ statements schema changes new_order list) → IfErr result (λ e. e ≡ Memory)
-    → Gives (λ plan. plan) result (unless_gone_cycle schema changes new_order (delete_order schema changes (gone_rows schema changes)))
-planned schema changes new_order rows list ordered (Ok plan) is of same made cause =
+pub planned : (schema : Catalog) (changes : RowChanges) (new_order rows list : List ℕ) (ordered : Ordered) (plan : List Planned) → order_result ordered ≡ delete_order schema changes (gone_rows schema changes) → order_result ordered ≡ Ok rows → list ≡ rows
+    → plan ≡ statements schema changes new_order list → unless_gone_cycle schema changes new_order (delete_order schema changes (gone_rows schema changes)) ≡ Ok plan
+planned schema changes new_order rows list ordered plan is of same made =
     ap (unless_gone_cycle schema changes new_order) (sym is ∙ of ∙ ap Ok (sym same)) ∙ ap Ok (sym made)
-planned schema changes new_order rows list ordered (Err e) is of same made cause =
-    subst (λ e. Refuses e (unless_gone_cycle schema changes new_order (delete_order schema changes (gone_rows schema changes)))) (sym cause) tt
 
 pub cycled : (schema : Catalog) (changes : RowChanges) (new_order rows list : List ℕ) (ordered : Ordered) (names : List RowName) → order_result ordered ≡ delete_order schema changes (gone_rows schema changes) → order_result ordered ≡ Err rows → list ≡ rows
     → names ≡ map (λ row. (gone_at (gone_rows schema changes) row).name) list → unless_gone_cycle schema changes new_order (delete_order schema changes (gone_rows schema changes)) ≡ Err (CircularDependencyError names)

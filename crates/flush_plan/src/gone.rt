@@ -1,18 +1,17 @@
 //! The deleted rows, by table and key.
 
-ghost use Rattle.std.specs.Prelude.{◌≡◌, ◌<◌, ◌++◌, [], ◌∷◌, map, length, IfOk, IfErr, OnOk};
+ghost use Rattle.std.specs.Prelude.{◌≡◌, ◌<◌, ◌++◌, [], ◌∷◌, map, length, IfOk, OnOk};
 ghost use Rattle.std.specs.List.{All};
-ghost use Rattle.base_core.specs.declared.refusal.Refusal.TheVariants.{Memory};
 ghost use Rattle.schema_core.specs.Catalog.{IsTable};
 ghost use Rattle.flush_order.specs.Orders.{gone_at, place_of_gone};
 ghost use Rattle.flush_order.specs.Ready.{AreInRange, AreReadyGone, ready_gone};
 ghost use Rattle.flush_order.specs.Refers.{last_base};
 
-use base_core::{Copied, ListOf, Refusal, RowValues, Value};
+use base_core::{Copied, ListOf, RowValues, Value};
 use flush_order::{ReadyGone, push_cleared, sorted_numbers};
 use flush_writes::{Place, gone_key, place_of_gone};
 use schema_core::{GoneRow, RowChanges, Schema};
-use std::alloc::Global;
+use std::alloc::{AllocError, Global};
 
 /// A deleted row's base without what is cleared before it is deleted.
 fn last_base(
@@ -20,10 +19,9 @@ fn last_base(
     schema: &Schema,
     changes: &RowChanges,
     row: &GoneRow,
-) -> Result<RowValues, Refusal>
+) -> Result<RowValues, AllocError>
     requires { IsTable schema.now row.now.name.table }
-    ensures last { IfOk result (λ last. last ≡ last_base schema.now changes.now row.now) }
-    ensures cause { IfErr result (λ e. e ≡ Memory) }
+    ensures { IfOk result (λ last. last ≡ last_base schema.now changes.now row.now) }
 {
     let table = row.name.table;
     let mut last = Vec::new(alloc);
@@ -45,10 +43,9 @@ fn ready_gone(
     schema: &Schema,
     changes: &RowChanges,
     row: &GoneRow,
-) -> Result<ReadyGone, Refusal>
+) -> Result<ReadyGone, AllocError>
     requires { IsTable schema.now row.now.name.table }
-    ensures ready { IfOk result (λ ready. ready ≡ ready_gone schema.now changes.now row.now) }
-    ensures cause { IfErr result (λ e. e ≡ Memory) }
+    ensures { IfOk result (λ ready. ready ≡ ready_gone schema.now changes.now row.now) }
 {
     Ok(ReadyGone {
         name: row.name.copied()?,
@@ -58,11 +55,14 @@ fn ready_gone(
 }
 
 /// The tables and keys of the deleted rows.
-fn gone_places(alloc: Global, schema: &Schema, changes: &RowChanges) -> Result<Vec<Place>, Refusal>
+fn gone_places(
+    alloc: Global,
+    schema: &Schema,
+    changes: &RowChanges,
+) -> Result<Vec<Place>, AllocError>
     requires { AreInRange schema.now changes.now }
-    ensures places { IfOk result
+    ensures { IfOk result
         (λ places. places.items ≡ map (place_of_gone schema.now) changes.now.gone) }
-    ensures cause { IfErr result (λ e. e ≡ Memory) }
 {
     let mut places = Vec::new(alloc);
     for row in changes.gone.as_slice() {
@@ -78,11 +78,10 @@ fn push_ready(
     schema: &Schema,
     changes: &RowChanges,
     row: &GoneRow,
-) -> Result<(), Refusal>
+) -> Result<(), AllocError>
     requires { IsTable schema.now row.now.name.table }
-    ensures ready { OnOk result
+    ensures { OnOk result
         (out.new.items ≡ out.old.items ++ ready_gone schema.now changes.now row.now ∷ []) }
-    ensures cause { IfErr result (λ e. e ≡ Memory) }
 {
     out.push(ready_gone(alloc, schema, changes, row)?)?;
     Ok(())
@@ -95,12 +94,11 @@ fn ready_in_order(
     schema: &Schema,
     changes: &RowChanges,
     numbers: &[u32],
-) -> Result<Vec<ReadyGone>, Refusal>
+) -> Result<Vec<ReadyGone>, AllocError>
     requires range { AreInRange schema.now changes.now }
     requires within { All (λ number. number < length changes.now.gone) numbers.now }
-    ensures rows { IfOk result (λ rows. rows.items
+    ensures { IfOk result (λ rows. rows.items
         ≡ map (ready_gone schema.now changes.now) (map (gone_at changes.now.gone) numbers.now)) }
-    ensures cause { IfErr result (λ e. e ≡ Memory) }
 {
     let mut rows = Vec::new(alloc);
     for number in numbers {
@@ -111,15 +109,14 @@ fn ready_in_order(
 }
 
 #[tactic(auto, using(crate::proofs::GoneSteps::are_ready, crate::proofs::GoneSteps::gone_sized))]
-/// The deleted rows by table and key, made ready. The only refusal is `Memory`.
+/// The deleted rows by table and key, made ready.
 pub fn gone_rows(
     alloc: Global,
     schema: &Schema,
     changes: &RowChanges,
-) -> Result<Vec<ReadyGone>, Refusal>
+) -> Result<Vec<ReadyGone>, AllocError>
     requires { AreInRange schema.now changes.now }
-    ensures rows { IfOk result (λ rows. AreReadyGone schema.now changes.now rows.items) }
-    ensures cause { IfErr result (λ e. e ≡ Memory) }
+    ensures { IfOk result (λ rows. AreReadyGone schema.now changes.now rows.items) }
 {
     let places = gone_places(alloc, schema, changes)?;
     let numbers = sorted_numbers(alloc, places.as_slice())?;

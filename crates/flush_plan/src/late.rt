@@ -1,25 +1,23 @@
 //! What a flush writes once all rows stand.
 
-ghost use Rattle.std.specs.Prelude.{◌≡◌, ◌<◌, ◌≤◌, ◌+◌, ◌++◌, ◌∷◌, [], true, map, length, slice_index_or, IfOk, IfErr, OnOk};
+ghost use Rattle.std.specs.Prelude.{◌≡◌, ◌<◌, ◌≤◌, ◌+◌, ◌++◌, ◌∷◌, [], true, map, length, slice_index_or, IfOk, OnOk};
 ghost use Rattle.std.specs.List.{All, filter, range_with_len};
-ghost use Rattle.base_core.specs.declared.refusal.Refusal.TheVariants.{Memory};
 ghost use Rattle.schema_core.specs.declared.changes.RowCell.TheVariants.{KeyOf};
 ghost use Rattle.flush_order.specs.Cells.{key_parts};
 ghost use Rattle.flush_plan.specs.Planning.{by_place, is_of, key_at, late_in, late_new, late_old, late_updates, late_updates_of, late_writings, no_writing};
 ghost use Rattle.flush_writes.specs.Writes.{cells_when, late_gone, update_of, writing_some};
 ghost use Rattle.flush_order.specs.Ready.{AreInRange, AreReady};
 
-use base_core::{Copied, ListOf, Refusal, TableId};
+use base_core::{Copied, ListOf, TableId};
 use flush_order::{NewRows, sorted_numbers};
 use flush_writes::{Cells, Place, Writing, cells_when, late_gone, push_late, update_of};
 use schema_core::{ColumnSpec, Planned, RowCell, RowChanges, Schema};
-use std::alloc::Global;
+use std::alloc::{AllocError, Global};
 
 /// Puts what is written behind others, where some cell is.
-fn push_writing(out: &mut Vec<Writing>, writing: Writing) -> Result<(), Refusal>
-    ensures kept { OnOk result (out.new.items
+fn push_writing(out: &mut Vec<Writing>, writing: Writing) -> Result<(), AllocError>
+    ensures { OnOk result (out.new.items
         ≡ out.old.items ++ filter writing_some (writing ∷ [])) }
-    ensures cause { IfErr result (λ e. e ≡ Memory) }
 {
     if !writing.1.is_empty() {
         out.push(writing)?;
@@ -32,11 +30,10 @@ fn late_changed(
     alloc: Global,
     schema: &Schema,
     changes: &RowChanges,
-) -> Result<Vec<Writing>, Refusal>
+) -> Result<Vec<Writing>, AllocError>
     requires { AreInRange schema.now changes.now }
-    ensures writings { IfOk result (λ writings. writings.items
+    ensures { IfOk result (λ writings. writings.items
         ≡ filter writing_some (map (cells_when schema.now changes.now true) changes.now.changed)) }
-    ensures cause { IfErr result (λ e. e ≡ Memory) }
 {
     let mut writings = Vec::new(alloc);
     for row in changes.changed.as_slice() {
@@ -54,11 +51,10 @@ fn push_late_gone(
     alloc: Global,
     schema: &Schema,
     changes: &RowChanges,
-) -> Result<(), Refusal>
+) -> Result<(), AllocError>
     requires { AreInRange schema.now changes.now }
-    ensures writings { OnOk result (out.new.items ≡ out.old.items
+    ensures { OnOk result (out.new.items ≡ out.old.items
         ++ filter writing_some (map (late_gone schema.now changes.now) changes.now.gone)) }
-    ensures cause { IfErr result (λ e. e ≡ Memory) }
 {
     for row in changes.gone.as_slice() {
         push_writing(out, late_gone(alloc, schema, changes, row)?)?;
@@ -71,11 +67,10 @@ fn late_writings(
     alloc: Global,
     schema: &Schema,
     changes: &RowChanges,
-) -> Result<Vec<Writing>, Refusal>
+) -> Result<Vec<Writing>, AllocError>
     requires { AreInRange schema.now changes.now }
-    ensures writings { IfOk result
+    ensures { IfOk result
         (λ writings. writings.items ≡ late_writings schema.now changes.now) }
-    ensures cause { IfErr result (λ e. e ≡ Memory) }
 {
     let mut writings = late_changed(alloc, schema, changes)?;
     push_late_gone(&mut writings, alloc, schema, changes)?;
@@ -83,10 +78,9 @@ fn late_writings(
 }
 
 /// The tables and keys of rows that are written.
-fn written_places(alloc: Global, writings: &[Writing]) -> Result<Vec<Place>, Refusal>
-    ensures places { IfOk result
+fn written_places(alloc: Global, writings: &[Writing]) -> Result<Vec<Place>, AllocError>
+    ensures { IfOk result
         (λ places. places.items ≡ map (λ row. row.0) writings.now) }
-    ensures cause { IfErr result (λ e. e ≡ Memory) }
 {
     let mut places = Vec::new(alloc);
     for row in writings {
@@ -96,9 +90,8 @@ fn written_places(alloc: Global, writings: &[Writing]) -> Result<Vec<Place>, Ref
 }
 
 /// Puts a copy behind others.
-fn push_copy(out: &mut Vec<Writing>, writing: &Writing) -> Result<(), Refusal>
-    ensures copy { OnOk result (out.new.items ≡ out.old.items ++ writing.now ∷ []) }
-    ensures cause { IfErr result (λ e. e ≡ Memory) }
+fn push_copy(out: &mut Vec<Writing>, writing: &Writing) -> Result<(), AllocError>
+    ensures { OnOk result (out.new.items ≡ out.old.items ++ writing.now ∷ []) }
 {
     out.push(writing.copied()?)?;
     Ok(())
@@ -109,11 +102,10 @@ fn in_order(
     alloc: Global,
     writings: &ListOf<Writing>,
     numbers: &[u32],
-) -> Result<Vec<Writing>, Refusal>
+) -> Result<Vec<Writing>, AllocError>
     requires { All (λ number. number < length writings.now) numbers.now }
-    ensures sorted { IfOk result (λ sorted. sorted.items
+    ensures { IfOk result (λ sorted. sorted.items
         ≡ map (λ number. slice_index_or writings.now number no_writing) numbers.now) }
-    ensures cause { IfErr result (λ e. e ≡ Memory) }
 {
     let mut sorted = Vec::new(alloc);
     for number in numbers {
@@ -125,10 +117,9 @@ fn in_order(
 
 #[tactic(auto, using(crate::proofs::LateSteps::place_steps))]
 /// What is written into rows, by table and key.
-fn by_place(alloc: Global, writings: &ListOf<Writing>) -> Result<Vec<Writing>, Refusal>
+fn by_place(alloc: Global, writings: &ListOf<Writing>) -> Result<Vec<Writing>, AllocError>
     requires { length writings.now ≤ 4294967295 }
-    ensures sorted { IfOk result (λ sorted. sorted.items ≡ by_place writings.now) }
-    ensures cause { IfErr result (λ e. e ≡ Memory) }
+    ensures { IfOk result (λ sorted. sorted.items ≡ by_place writings.now) }
 {
     let places = written_places(alloc, writings.as_slice())?;
     let numbers = sorted_numbers(alloc, places.as_slice())?;
@@ -137,10 +128,13 @@ fn by_place(alloc: Global, writings: &ListOf<Writing>) -> Result<Vec<Writing>, R
 
 #[tactic(auto, using(crate::proofs::LateSteps::old_fewer))]
 /// What is written into old rows once all rows stand, by table and key.
-fn late_old(alloc: Global, schema: &Schema, changes: &RowChanges) -> Result<Vec<Writing>, Refusal>
+fn late_old(
+    alloc: Global,
+    schema: &Schema,
+    changes: &RowChanges,
+) -> Result<Vec<Writing>, AllocError>
     requires { AreInRange schema.now changes.now }
-    ensures writings { IfOk result (λ writings. writings.items ≡ late_old schema.now changes.now) }
-    ensures cause { IfErr result (λ e. e ≡ Memory) }
+    ensures { IfOk result (λ writings. writings.items ≡ late_old schema.now changes.now) }
 {
     let writings = ListOf::from_vec(late_writings(alloc, schema, changes)?);
     by_place(alloc, &writings)
@@ -153,11 +147,10 @@ fn push_parts(
     part: u32,
     columns: &[ColumnSpec],
     cells: &[RowCell],
-) -> Result<(), Refusal>
+) -> Result<(), AllocError>
     requires { part + length columns.now ≤ 4294967295 }
-    ensures parts { OnOk result (out.new ≡ out.old ++ map (KeyOf row)
+    ensures { OnOk result (out.new ≡ out.old ++ map (KeyOf row)
         (range_with_len part (length (key_parts columns.now cells.now)))) }
-    ensures cause { IfErr result (λ e. e ≡ Memory) }
 {
     if let (Some((column, columns)), Some((_cell, cells))) = (
         columns.split_first(),
@@ -174,13 +167,12 @@ fn push_parts(
 
 #[tactic(auto, using(flush_writes::proofs::WritingSteps::narrow_at))]
 /// The parts of a new row's key.
-fn key_at(new: &NewRows, alloc: Global, row: u32) -> Result<ListOf<RowCell>, Refusal>
+fn key_at(new: &NewRows, alloc: Global, row: u32) -> Result<ListOf<RowCell>, AllocError>
     requires ready { AreReady new.now.schema.now new.now.changes.now new.now.rows.now }
     requires range { AreInRange new.now.schema.now new.now.changes.now }
     requires within { row < length new.now.rows.now }
-    ensures key { IfOk result
+    ensures { IfOk result
         (λ key. key ≡ key_at new.now.schema.now new.now.changes.now row) }
-    ensures cause { IfErr result (λ e. e ≡ Memory) }
 {
     let ready = new.at(row);
     let mut key = ListOf::new(alloc);
@@ -191,13 +183,12 @@ fn key_at(new: &NewRows, alloc: Global, row: u32) -> Result<ListOf<RowCell>, Ref
 
 #[tactic(auto, using(flush_writes::proofs::WritingSteps::narrow_at, flush_order::proofs::ReadyLemmas::new_is))]
 /// What is written into a new row once all rows stand.
-fn late_new(new: &NewRows, alloc: Global, row: u32) -> Result<Cells, Refusal>
+fn late_new(new: &NewRows, alloc: Global, row: u32) -> Result<Cells, AllocError>
     requires ready { AreReady new.now.schema.now new.now.changes.now new.now.rows.now }
     requires range { AreInRange new.now.schema.now new.now.changes.now }
     requires within { row < length new.now.rows.now }
-    ensures cells { IfOk result
+    ensures { IfOk result
         (λ cells. cells ≡ late_new new.now.schema.now new.now.changes.now row) }
-    ensures cause { IfErr result (λ e. e ≡ Memory) }
 {
     let table = new.at(row).table;
     let columns = new.schema.spec(table).columns.as_slice();
@@ -215,13 +206,12 @@ fn push_late_new(
     alloc: Global,
     table: TableId,
     row: u32,
-) -> Result<(), Refusal>
+) -> Result<(), AllocError>
     requires ready { AreReady new.now.schema.now new.now.changes.now new.now.rows.now }
     requires range { AreInRange new.now.schema.now new.now.changes.now }
     requires within { row < length new.now.rows.now }
-    ensures update { OnOk result (out.new.items ≡ out.old.items
+    ensures { OnOk result (out.new.items ≡ out.old.items
         ++ late_updates_of new.now.schema.now new.now.changes.now table (row ∷ [])) }
-    ensures cause { IfErr result (λ e. e ≡ Memory) }
 {
     if new.at(row).table.0 != table.0 {
         return Ok(());
@@ -242,13 +232,12 @@ fn push_all_late_new(
     alloc: Global,
     table: TableId,
     order: &[u32],
-) -> Result<(), Refusal>
+) -> Result<(), AllocError>
     requires ready { AreReady new.now.schema.now new.now.changes.now new.now.rows.now }
     requires range { AreInRange new.now.schema.now new.now.changes.now }
     requires within { All (λ row. row < length new.now.rows.now) order.now }
-    ensures updates { OnOk result (out.new.items ≡ out.old.items
+    ensures { OnOk result (out.new.items ≡ out.old.items
         ++ late_updates_of new.now.schema.now new.now.changes.now table order.now) }
-    ensures cause { IfErr result (λ e. e ≡ Memory) }
 {
     for row in order {
         push_late_new(new, out, alloc, table, *row)?;
@@ -262,10 +251,9 @@ fn push_late_old_one(
     alloc: Global,
     table: TableId,
     writing: &Writing,
-) -> Result<(), Refusal>
-    ensures update { OnOk result (out.new.items ≡ out.old.items
+) -> Result<(), AllocError>
+    ensures { OnOk result (out.new.items ≡ out.old.items
         ++ map update_of (filter (λ row. is_of table row.0.0) (writing.now ∷ []))) }
-    ensures cause { IfErr result (λ e. e ≡ Memory) }
 {
     if writing.0.0.0 == table.0 {
         out.push(update_of(alloc, writing)?)?;
@@ -279,10 +267,9 @@ fn push_late_old(
     alloc: Global,
     table: TableId,
     writings: &[Writing],
-) -> Result<(), Refusal>
-    ensures updates { OnOk result (out.new.items ≡ out.old.items
+) -> Result<(), AllocError>
+    ensures { OnOk result (out.new.items ≡ out.old.items
         ++ map update_of (filter (λ row. is_of table row.0.0) writings.now)) }
-    ensures cause { IfErr result (λ e. e ≡ Memory) }
 {
     for writing in writings {
         push_late_old_one(out, alloc, table, writing)?;
@@ -298,14 +285,13 @@ fn push_table(
     table: TableId,
     order: &[u32],
     old: &[Writing],
-) -> Result<(), Refusal>
+) -> Result<(), AllocError>
     requires ready { AreReady new.now.schema.now new.now.changes.now new.now.rows.now }
     requires range { AreInRange new.now.schema.now new.now.changes.now }
     requires within { All (λ row. row < length new.now.rows.now) order.now }
     requires old { old.now ≡ late_old new.now.schema.now new.now.changes.now }
-    ensures table { OnOk result (out.new.items ≡ out.old.items
+    ensures { OnOk result (out.new.items ≡ out.old.items
         ++ late_in new.now.schema.now new.now.changes.now order.now table) }
-    ensures cause { IfErr result (λ e. e ≡ Memory) }
 {
     push_all_late_new(new, out, alloc, table, order)?;
     push_late_old(out, alloc, table, old)?;
@@ -313,15 +299,13 @@ fn push_table(
 }
 
 #[tactic(auto, using(crate::proofs::LateSteps::late_end))]
-/// What is written once all rows stand, table by table: into new rows in this order, and then into the others by key. The
-/// only refusal is `Memory`.
-pub fn late_updates(new: &NewRows, alloc: Global, order: &[u32]) -> Result<Vec<Planned>, Refusal>
+/// What is written once all rows stand, table by table: into new rows in this order, and then into the others by key.
+pub fn late_updates(new: &NewRows, alloc: Global, order: &[u32]) -> Result<Vec<Planned>, AllocError>
     requires ready { AreReady new.now.schema.now new.now.changes.now new.now.rows.now }
     requires range { AreInRange new.now.schema.now new.now.changes.now }
     requires within { All (λ row. row < length new.now.rows.now) order.now }
-    ensures updates { IfOk result (λ statements. statements.items
+    ensures { IfOk result (λ statements. statements.items
         ≡ late_updates new.now.schema.now new.now.changes.now order.now) }
-    ensures cause { IfErr result (λ e. e ≡ Memory) }
 {
     let old = late_old(alloc, new.schema, new.changes)?;
     let mut statements = Vec::new(alloc);

@@ -5,4 +5,4 @@ mod gone;
 mod late;
 mod phases;
 
-pub use phases::plan;
+pub use phases::{plan, plan_ready};

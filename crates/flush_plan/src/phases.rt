@@ -1,9 +1,8 @@
 //! The plan of a flush.
 
-ghost use Rattle.std.specs.Prelude.{◌≡◌, ◌<◌, ◌++◌, length, IfOk, IfErr, OnOk};
+ghost use Rattle.std.specs.Prelude.{◌≡◌, ◌<◌, ◌++◌, length, IfOk, OnOk};
 ghost use Rattle.std.specs.List.{All};
 ghost use Rattle.base_core.specs.Answers.{Gives};
-ghost use Rattle.base_core.specs.declared.refusal.Refusal.TheVariants.{Memory};
 ghost use Rattle.flush_order.specs.Orders.{delete_order, gone_rows};
 ghost use Rattle.flush_plan.specs.Planning.{plan, statements, unless_gone_cycle};
 ghost use Rattle.flush_order.specs.Ready.{AreInRange, AreReady, AreReadyGone};
@@ -15,12 +14,11 @@ use flush_order::{GoneRows, NewRows, ready_rows};
 use flush_writes::{gone_names, inserts, new_names, removes, updates};
 use row_order::{Ordered, order_or_cycle};
 use schema_core::{Plan, Planned, RowChanges, Schema};
-use std::alloc::Global;
+use std::alloc::{AllocError, Global};
 
 /// Puts statements behind others.
-fn push_all(out: &mut Vec<Planned>, more: Vec<Planned>) -> Result<(), Refusal>
-    ensures all { OnOk result (out.new.items ≡ out.old.items ++ more.items) }
-    ensures cause { IfErr result (λ e. e ≡ Memory) }
+fn push_all(out: &mut Vec<Planned>, more: Vec<Planned>) -> Result<(), AllocError>
+    ensures { OnOk result (out.new.items ≡ out.old.items ++ more.items) }
 {
     let mut more = more;
     out.append(&mut more)?;
@@ -34,7 +32,7 @@ fn statements(
     new_order: &[u32],
     gone: &GoneRows,
     gone_order: &[u32],
-) -> Result<Plan, Refusal>
+) -> Result<Plan, AllocError>
     requires range { AreInRange new.now.schema.now new.now.changes.now }
     requires new { AreReady new.now.schema.now new.now.changes.now new.now.rows.now }
     requires new_order { All (λ row. row < length new.now.rows.now) new_order.now }
@@ -42,9 +40,8 @@ fn statements(
     requires gone_order { All (λ row. row < length gone.now.rows.now) gone_order.now }
     requires schema { gone.now.schema.now ≡ new.now.schema.now }
     requires changes { gone.now.changes.now ≡ new.now.changes.now }
-    ensures statements { IfOk result (λ plan. plan
+    ensures { IfOk result (λ plan. plan
         ≡ statements new.now.schema.now new.now.changes.now new_order.now gone_order.now) }
-    ensures cause { IfErr result (λ e. e ≡ Memory) }
 {
     let mut plan = inserts(new, alloc, new_order)?;
     push_all(&mut plan, updates(alloc, new.schema, new.changes)?)?;
@@ -70,7 +67,7 @@ fn plan_by(alloc: Global, new: &NewRows, new_order: &[u32]) -> Result<Plan, Refu
         rows: ready.as_slice(),
     };
     match order_or_cycle(alloc, &gone)? {
-        Ordered::Order(rows) => statements(alloc, new, new_order, &gone, rows.as_slice()),
+        Ordered::Order(rows) => Ok(statements(alloc, new, new_order, &gone, rows.as_slice())?),
         Ordered::Cycle(rows) => Err(Refusal::CircularDependencyError(gone_names(
             &gone,
             alloc,
@@ -80,6 +77,25 @@ fn plan_by(alloc: Global, new: &NewRows, new_order: &[u32]) -> Result<Plan, Refu
 }
 
 #[tactic(auto, unfolding(crate::specs::Planning::plan))]
+/// The statements of a flush in their order (`plan`), where its new rows are made ready.
+///
+/// # Errors
+/// As of `plan`.
+pub fn plan_ready(alloc: Global, new: &NewRows) -> Result<Plan, Refusal>
+    requires range { AreInRange new.now.schema.now new.now.changes.now }
+    requires ready { AreReady new.now.schema.now new.now.changes.now new.now.rows.now }
+    ensures { Gives (λ plan. plan) result (plan new.now.schema.now new.now.changes.now) }
+{
+    match order_or_cycle(alloc, new)? {
+        Ordered::Order(rows) => plan_by(alloc, new, rows.as_slice()),
+        Ordered::Cycle(rows) => Err(Refusal::CircularDependencyError(new_names(
+            new,
+            alloc,
+            rows.as_slice(),
+        )?)),
+    }
+}
+
 /// The statements of a flush in their order: INSERTs of new rows, each after those to which it refers, cut into runs as long as
 /// can be; UPDATEs of changed rows by table and key; what is written once all rows stand, by table; DELETEs, each after those
 /// that refer to it.
@@ -97,12 +113,5 @@ pub fn plan(alloc: Global, schema: &Schema, changes: &RowChanges) -> Result<Plan
         changes,
         rows: ready.as_slice(),
     };
-    match order_or_cycle(alloc, &new)? {
-        Ordered::Order(rows) => plan_by(alloc, &new, rows.as_slice()),
-        Ordered::Cycle(rows) => Err(Refusal::CircularDependencyError(new_names(
-            &new,
-            alloc,
-            rows.as_slice(),
-        )?)),
-    }
+    plan_ready(alloc, &new)
 }

@@ -1,20 +1,19 @@
 //! The cells of objects after success.
 
-ghost use Rattle.std.specs.Prelude.{◌≡◌, ◌==◌, ◌<◌, length, map, IfOk, IfErr, IsTrue};
+ghost use Rattle.std.specs.Prelude.{◌≡◌, ◌==◌, ◌<◌, length, map, IfOk, IsTrue};
 ghost use Rattle.std.specs.List.{enumerate_from, list_any, position};
-ghost use Rattle.base_core.specs.declared.refusal.Refusal.TheVariants.{Memory};
 ghost use Rattle.class_mapping.specs.Mapped.{IsClass, attributes_of};
 ghost use Rattle.object_arena.specs.Graph.{IsObject};
 ghost use Rattle.graph_flushed.specs.Flushed as spec;
 ghost use Rattle.flush_settling.specs.Ready.{IsFlushing, written_of};
 
 use crate::flushing::Flushing;
-use base_core::{AttrNo, ClassId, Key, ListOf, ObjId, Refusal, Value};
+use base_core::{AttrNo, ClassId, Key, ListOf, ObjId, Value};
 use class_layouts::number_of;
 use graph_flushed::{held_cell, is_kept, kept_cell};
 use object_arena::Cell;
 use object_rows::part_of_key;
-use std::alloc::Global;
+use std::alloc::{AllocError, Global};
 
 /// The place of an attribute among those of the key.
 fn place_among(keys: &[AttrNo], place: usize) -> Option<usize>
@@ -44,14 +43,13 @@ impl<'a> Flushing<'a> {
         key: &Key,
         place: usize,
         cell: &Cell,
-    ) -> Result<Value, Refusal>
+    ) -> Result<Value, AllocError>
         requires flushing { IsFlushing self.now }
         requires object { IsObject self.now.projection.now.arena.now object }
         requires class { IsClass self.now.projection.now.mapping.now class }
         requires place { place < length (attributes_of self.now.projection.now.mapping.now class) }
-        ensures value { IfOk result (λ value. value
+        ensures { IfOk result (λ value. value
             ≡ spec.new_value (written_of self.now) object class key.now (place, cell.now)) }
-        ensures cause { IfErr result (λ e. e ≡ Memory) }
     {
         let mapping = self.projection.mapping;
         match place_among(mapping.key_attributes(class), place) {
@@ -69,16 +67,15 @@ impl<'a> Flushing<'a> {
         class: ClassId,
         key: &Key,
         cells: &[Cell],
-    ) -> Result<ListOf<Cell>, Refusal>
+    ) -> Result<ListOf<Cell>, AllocError>
         requires flushing { IsFlushing self.now }
         requires object { IsObject self.now.projection.now.arena.now object }
         requires class { IsClass self.now.projection.now.mapping.now class }
         requires long { length cells.now
             ≡ length (attributes_of self.now.projection.now.mapping.now class) }
-        ensures cells { IfOk result (λ new. new ≡ map
+        ensures { IfOk result (λ new. new ≡ map
             (spec.new_cell (written_of self.now) object class key.now)
             (enumerate_from 0 cells.now)) }
-        ensures cause { IfErr result (λ e. e ≡ Memory) }
     {
         let mut new = ListOf::new(alloc);
         for (place, cell) in cells.iter().enumerate() {
@@ -95,14 +92,13 @@ impl<'a> Flushing<'a> {
         class: ClassId,
         place: usize,
         cell: &Cell,
-    ) -> Result<Cell, Refusal>
+    ) -> Result<Cell, AllocError>
         requires flushing { IsFlushing self.now }
         requires object { IsObject self.now.projection.now.arena.now object }
         requires class { IsClass self.now.projection.now.mapping.now class }
         requires place { place < length (attributes_of self.now.projection.now.mapping.now class) }
-        ensures cell { IfOk result (λ staying. staying
+        ensures { IfOk result (λ staying. staying
             ≡ spec.staying_cell (written_of self.now) object class (place, cell.now)) }
-        ensures cause { IfErr result (λ e. e ≡ Memory) }
     {
         let mapping = self.projection.mapping;
         if is_among(mapping.key_attributes(class), place) {
@@ -121,14 +117,13 @@ impl<'a> Flushing<'a> {
         class: ClassId,
         place: usize,
         cell: &Cell,
-    ) -> Result<bool, Refusal>
+    ) -> Result<bool, AllocError>
         requires flushing { IsFlushing self.now }
         requires object { IsObject self.now.projection.now.arena.now object }
         requires class { IsClass self.now.projection.now.mapping.now class }
         requires place { place < length (attributes_of self.now.projection.now.mapping.now class) }
-        ensures kept { IfOk result (λ kept. IsTrue kept
+        ensures { IfOk result (λ kept. IsTrue kept
             → spec.staying_cell (written_of self.now) object class (place, cell.now) ≡ cell.now) }
-        ensures cause { IfErr result (λ e. e ≡ Memory) }
     {
         if !is_kept(cell) {
             return Ok(false);
@@ -147,16 +142,15 @@ impl<'a> Flushing<'a> {
         object: ObjId,
         class: ClassId,
         cells: &[Cell],
-    ) -> Result<bool, Refusal>
+    ) -> Result<bool, AllocError>
         requires flushing { IsFlushing self.now }
         requires object { IsObject self.now.projection.now.arena.now object }
         requires class { IsClass self.now.projection.now.mapping.now class }
         requires long { length cells.now
             ≡ length (attributes_of self.now.projection.now.mapping.now class) }
-        ensures kept { IfOk result (λ kept. IsTrue kept → map
+        ensures { IfOk result (λ kept. IsTrue kept → map
             (spec.staying_cell (written_of self.now) object class) (enumerate_from 0 cells.now)
             ≡ cells.now) }
-        ensures cause { IfErr result (λ e. e ≡ Memory) }
     {
         for (place, cell) in cells.iter().enumerate() {
             if !self.keeps_cell(object, class, place, cell)? {
@@ -174,15 +168,14 @@ impl<'a> Flushing<'a> {
         object: ObjId,
         class: ClassId,
         cells: &[Cell],
-    ) -> Result<ListOf<Cell>, Refusal>
+    ) -> Result<ListOf<Cell>, AllocError>
         requires flushing { IsFlushing self.now }
         requires object { IsObject self.now.projection.now.arena.now object }
         requires class { IsClass self.now.projection.now.mapping.now class }
         requires long { length cells.now
             ≡ length (attributes_of self.now.projection.now.mapping.now class) }
-        ensures cells { IfOk result (λ staying. staying ≡ map
+        ensures { IfOk result (λ staying. staying ≡ map
             (spec.staying_cell (written_of self.now) object class) (enumerate_from 0 cells.now)) }
-        ensures cause { IfErr result (λ e. e ≡ Memory) }
     {
         let mut staying = ListOf::new(alloc);
         for (place, cell) in cells.iter().enumerate() {

@@ -1,7 +1,6 @@
 //! What a flush wrote, and the values of cells that come of it.
 
-ghost use Rattle.std.specs.Prelude.{◌≡◌, slice_get, slice_index_or, IfOk, IfErr};
-ghost use Rattle.base_core.specs.declared.refusal.Refusal.TheVariants.{Memory};
+ghost use Rattle.std.specs.Prelude.{◌≡◌, slice_get, slice_index_or, IfOk};
 ghost use Rattle.class_mapping.specs.Mapped.{IsClass};
 ghost use Rattle.object_arena.specs.Graph.{IsObject};
 ghost use Rattle.class_layouts.specs.Faults.{foreigns_in};
@@ -10,7 +9,7 @@ ghost use Rattle.object_rows.specs.Seen.{is_kept_end};
 ghost use Rattle.graph_flushed.specs.Flushed as spec;
 ghost use Rattle.flush_settling.specs.Ready.{IsFlushing, written_of};
 
-use base_core::{ClassId, Copied, Key, Name, ObjId, Refusal, RelNo, TableId, Value};
+use base_core::{ClassId, Copied, Key, Name, ObjId, RelNo, TableId, Value};
 use class_layouts::number_of;
 use class_mapping::{Attribute, Relation};
 use graph_flushed::{is_telling, known_value, part_or_null};
@@ -18,6 +17,7 @@ use object_arena::{Cell, IdentityMap};
 use object_rows::{end_put, is_in_session};
 use object_writes::Projection;
 use schema_core::RowCell;
+use std::alloc::AllocError;
 
 /// A prepared graph whose changes were written, with the keys of its new objects, each at its object's place, and these
 /// objects by their keys.
@@ -30,10 +30,9 @@ pub(crate) struct Flushing<'a> {
 
 impl<'a> Flushing<'a> {
     /// A part of the key of a new object, or NULL.
-    fn part_of_new(&self, object: ObjId, part: u32) -> Result<Value, Refusal>
-        ensures value { IfOk result
+    fn part_of_new(&self, object: ObjId, part: u32) -> Result<Value, AllocError>
+        ensures { IfOk result
             (λ value. value ≡ key_value (spec.key_of (written_of self.now) object) part) }
-        ensures cause { IfErr result (λ e. e ≡ Memory) }
     {
         match self.keys.get(object.0.saturating_sub(1) as usize) {
             Some(key) => part_or_null(key, part),
@@ -42,10 +41,9 @@ impl<'a> Flushing<'a> {
     }
 
     /// What a cell of a row holds.
-    fn value_put(&self, cell: &RowCell) -> Result<Value, Refusal>
-        ensures value { IfOk result
+    fn value_put(&self, cell: &RowCell) -> Result<Value, AllocError>
+        ensures { IfOk result
             (λ value. value ≡ spec.value_put (written_of self.now) cell.now) }
-        ensures cause { IfErr result (λ e. e ≡ Memory) }
     {
         match cell {
             RowCell::Given(value) => Ok(value.copied()?),
@@ -54,10 +52,9 @@ impl<'a> Flushing<'a> {
     }
 
     /// A part of the key of a new row.
-    fn part_of_row(&self, place: u32, part: u32) -> Result<Value, Refusal>
-        ensures value { IfOk result (λ value. value ≡ key_value (spec.key_of (written_of self.now)
+    fn part_of_row(&self, place: u32, part: u32) -> Result<Value, AllocError>
+        ensures { IfOk result (λ value. value ≡ key_value (spec.key_of (written_of self.now)
             (slice_index_or self.now.projection.now.names.now place spec.no_row).object) part) }
-        ensures cause { IfErr result (λ e. e ≡ Memory) }
     {
         match self.projection.names.as_slice().get(place as usize) {
             Some(row) => self.part_of_new(row.object, part),
@@ -83,14 +80,13 @@ impl<'a> Flushing<'a> {
         number: u32,
         name: &Name,
         put: Option<Option<ObjId>>,
-    ) -> Result<Option<RowCell>, Refusal>
-        ensures cell { IfOk result (λ cell. cell
+    ) -> Result<Option<RowCell>, AllocError>
+        ensures { IfOk result (λ cell. cell
             ≡ put_cell self.now.projection.now.mapping.now.schema
             self.now.projection.now.arena.now self.now.projection.now.prepared.now
             self.now.projection.now.names.now name.now
             (slice_get (foreigns_in self.now.projection.now.mapping.now.schema.tables table) number)
             put) }
-        ensures cause { IfErr result (λ e. e ≡ Memory) }
     {
         let Some(end) = put else {
             return Ok(None);
@@ -109,12 +105,11 @@ impl<'a> Flushing<'a> {
         object: ObjId,
         table: TableId,
         name: &Name,
-    ) -> Result<Option<RowCell>, Refusal>
-        ensures cell { IfOk result (λ cell. cell ≡ relation_cell
+    ) -> Result<Option<RowCell>, AllocError>
+        ensures { IfOk result (λ cell. cell ≡ relation_cell
             self.now.projection.now.mapping.now self.now.projection.now.arena.now
             self.now.projection.now.prepared.now self.now.projection.now.names.now
             object table name.now (number, relation.now)) }
-        ensures cause { IfErr result (λ e. e ≡ Memory) }
     {
         if relation.many || relation.foreign.0.0 != table.0 {
             return Ok(None);
@@ -136,14 +131,13 @@ impl<'a> Flushing<'a> {
         object: ObjId,
         table: TableId,
         name: &Name,
-    ) -> Result<Option<RowCell>, Refusal>
+    ) -> Result<Option<RowCell>, AllocError>
         requires flushing { IsFlushing self.now }
         requires object { IsObject self.now.projection.now.arena.now object }
-        ensures cell { IfOk result (λ cell. cell ≡ linked_cell
+        ensures { IfOk result (λ cell. cell ≡ linked_cell
             self.now.projection.now.mapping.now self.now.projection.now.arena.now
             self.now.projection.now.prepared.now self.now.projection.now.names.now
             object table name.now) }
-        ensures cause { IfErr result (λ e. e ≡ Memory) }
     {
         let class = self.projection.arena.class_of(object);
         let relations = self.projection.mapping.relations(class);
@@ -160,12 +154,11 @@ impl<'a> Flushing<'a> {
         &self,
         object: ObjId,
         attribute: &Attribute,
-    ) -> Result<Option<Value>, Refusal>
+    ) -> Result<Option<Value>, AllocError>
         requires flushing { IsFlushing self.now }
         requires object { IsObject self.now.projection.now.arena.now object }
-        ensures value { IfOk result (λ value. value
+        ensures { IfOk result (λ value. value
             ≡ spec.value_come (written_of self.now) object attribute.now) }
-        ensures cause { IfErr result (λ e. e ≡ Memory) }
     {
         match self.linked_cell(object, attribute.table, &attribute.name)? {
             Some(cell) => Ok(Some(self.value_put(&cell)?)),
@@ -180,13 +173,12 @@ impl<'a> Flushing<'a> {
         class: ClassId,
         attribute: &Attribute,
         cell: &Cell,
-    ) -> Result<Value, Refusal>
+    ) -> Result<Value, AllocError>
         requires flushing { IsFlushing self.now }
         requires object { IsObject self.now.projection.now.arena.now object }
         requires class { IsClass self.now.projection.now.mapping.now class }
-        ensures value { IfOk result (λ value. value
+        ensures { IfOk result (λ value. value
             ≡ spec.own_value (written_of self.now) object class attribute.now cell.now) }
-        ensures cause { IfErr result (λ e. e ≡ Memory) }
     {
         let mapping = self.projection.mapping;
         if is_telling(mapping, class, attribute.table, &attribute.name) {

@@ -1,8 +1,7 @@
 //! Objects after success.
 
-ghost use Rattle.std.specs.Prelude.{◌≡◌, None, Some, length, IfOk, IfErr, IsTrue};
+ghost use Rattle.std.specs.Prelude.{◌≡◌, None, Some, length, IfOk, IsTrue};
 ghost use Rattle.std.specs.Option.{unwrap_or};
-ghost use Rattle.base_core.specs.declared.refusal.Refusal.TheVariants.{Memory};
 ghost use Rattle.object_arena.specs.Graph.{IsObject, object_at};
 ghost use Rattle.object_arena.specs.Identity.{is_other};
 ghost use Rattle.graph_flushed.specs.Flushed as spec;
@@ -11,11 +10,11 @@ ghost use Rattle.graph_flushed.specs.Ready.{AreNarrowThen, IsNarrow};
 ghost use Rattle.flush_settling.specs.Ready.{IsFlushing, written_of};
 
 use crate::flushing::Flushing;
-use base_core::{Copied, Key, ListOf, ObjId, Refusal};
+use base_core::{Copied, Key, ListOf, ObjId};
 use graph_flushed::{keeps_links, kept_cells, kept_links, prepared_links};
 use object_arena::{Cell, Object, State};
 use object_rows::is_among;
-use std::alloc::Global;
+use std::alloc::{AllocError, Global};
 
 /// Whether another object was found.
 fn is_other(object: ObjId, found: Option<ObjId>) -> bool
@@ -67,16 +66,15 @@ impl<'a> Flushing<'a> {
         object: ObjId,
         state: State,
         identity: &Option<Key>,
-    ) -> Result<Object, Refusal>
+    ) -> Result<Object, AllocError>
         requires object { IsObject self.now.projection.now.arena.now object }
-        ensures object { IfOk result (λ new. new
+        ensures { IfOk result (λ new. new
             ≡ record (object_at self.now.projection.now.arena.now object) {
               state = state;
               identity = identity.now;
               links = spec.prepared_links self.now.projection.now.prepared.now object
                   (object_at self.now.projection.now.arena.now object).links;
             }) }
-        ensures cause { IfErr result (λ e. e ≡ Memory) }
     {
         let old = self.projection.arena.object(object);
         let links = prepared_links(
@@ -100,23 +98,21 @@ impl<'a> Flushing<'a> {
     }
 
     /// An object that is new no more.
-    fn transient_object(&self, alloc: Global, object: ObjId) -> Result<Object, Refusal>
+    fn transient_object(&self, alloc: Global, object: ObjId) -> Result<Object, AllocError>
         requires object { IsObject self.now.projection.now.arena.now object }
-        ensures object { IfOk result (λ new. new ≡ spec.new_object (written_of self.now)
+        ensures { IfOk result (λ new. new ≡ spec.new_object (written_of self.now)
             object None (object_at self.now.projection.now.arena.now object)) }
-        ensures cause { IfErr result (λ e. e ≡ Memory) }
     {
         self.prepared_object(alloc, object, State::Transient, &None)
     }
 
     /// A new object under its key.
-    fn new_object(&self, alloc: Global, object: ObjId, key: &Key) -> Result<Object, Refusal>
+    fn new_object(&self, alloc: Global, object: ObjId, key: &Key) -> Result<Object, AllocError>
         requires flushing { IsFlushing self.now }
         requires object { IsObject self.now.projection.now.arena.now object }
-        ensures object { IfOk result (λ new. new ≡ spec.new_object (written_of self.now)
+        ensures { IfOk result (λ new. new ≡ spec.new_object (written_of self.now)
             object (Some key.now)
             (object_at self.now.projection.now.arena.now object)) }
-        ensures cause { IfErr result (λ e. e ≡ Memory) }
     {
         let old = self.projection.arena.object(object);
         let cells = self.new_cells(alloc, object, old.class, key, old.cells.as_slice())?;
@@ -147,9 +143,9 @@ impl<'a> Flushing<'a> {
         state: State,
         marked: bool,
         cells: ListOf<Cell>,
-    ) -> Result<Object, Refusal>
+    ) -> Result<Object, AllocError>
         requires object { IsObject self.now.projection.now.arena.now object }
-        ensures object { IfOk result (λ new. new
+        ensures { IfOk result (λ new. new
             ≡ record (object_at self.now.projection.now.arena.now object) {
               state = state;
               marked = marked;
@@ -157,7 +153,6 @@ impl<'a> Flushing<'a> {
               links = spec.kept_links self.now.projection.now.prepared.now object
                   (object_at self.now.projection.now.arena.now object).links;
             }) }
-        ensures cause { IfErr result (λ e. e ≡ Memory) }
     {
         let old = self.projection.arena.object(object);
         let links = kept_links(
@@ -180,12 +175,11 @@ impl<'a> Flushing<'a> {
     }
 
     /// An object that keeps its rows.
-    fn staying_object(&self, alloc: Global, object: ObjId) -> Result<Object, Refusal>
+    fn staying_object(&self, alloc: Global, object: ObjId) -> Result<Object, AllocError>
         requires flushing { IsFlushing self.now }
         requires object { IsObject self.now.projection.now.arena.now object }
-        ensures object { IfOk result (λ new. new ≡ spec.staying_object (written_of self.now)
+        ensures { IfOk result (λ new. new ≡ spec.staying_object (written_of self.now)
             object (object_at self.now.projection.now.arena.now object)) }
-        ensures cause { IfErr result (λ e. e ≡ Memory) }
     {
         let old = self.projection.arena.object(object);
         let state = self.state_under(object, &old.identity);
@@ -194,11 +188,10 @@ impl<'a> Flushing<'a> {
     }
 
     /// An object whose rows are deleted.
-    fn deleted_object(&self, alloc: Global, object: ObjId) -> Result<Object, Refusal>
+    fn deleted_object(&self, alloc: Global, object: ObjId) -> Result<Object, AllocError>
         requires object { IsObject self.now.projection.now.arena.now object }
-        ensures object { IfOk result (λ new. new ≡ spec.deleted_object (written_of self.now)
+        ensures { IfOk result (λ new. new ≡ spec.deleted_object (written_of self.now)
             object (object_at self.now.projection.now.arena.now object)) }
-        ensures cause { IfErr result (λ e. e ≡ Memory) }
     {
         let old = self.projection.arena.object(object);
         let cells = kept_cells(alloc, old.cells.as_slice())?;
@@ -206,24 +199,22 @@ impl<'a> Flushing<'a> {
     }
 
     /// An object outside the session.
-    fn other_object(&self, alloc: Global, object: ObjId) -> Result<Object, Refusal>
+    fn other_object(&self, alloc: Global, object: ObjId) -> Result<Object, AllocError>
         requires object { IsObject self.now.projection.now.arena.now object }
-        ensures object { IfOk result (λ new. new ≡ spec.other_object (written_of self.now)
+        ensures { IfOk result (λ new. new ≡ spec.other_object (written_of self.now)
             object (object_at self.now.projection.now.arena.now object)) }
-        ensures cause { IfErr result (λ e. e ≡ Memory) }
     {
         let old = self.projection.arena.object(object);
         self.prepared_object(alloc, object, old.state, &old.identity)
     }
 
     /// An object that was pending.
-    fn pending_object(&self, alloc: Global, object: ObjId) -> Result<Object, Refusal>
+    fn pending_object(&self, alloc: Global, object: ObjId) -> Result<Object, AllocError>
         requires flushing { IsFlushing self.now }
         requires object { IsObject self.now.projection.now.arena.now object }
-        ensures object { IfOk result (λ new. new ≡ spec.new_object (written_of self.now)
+        ensures { IfOk result (λ new. new ≡ spec.new_object (written_of self.now)
             object (spec.key_of (written_of self.now) object)
             (object_at self.now.projection.now.arena.now object)) }
-        ensures cause { IfErr result (λ e. e ≡ Memory) }
     {
         match &self.keys[object.0 as usize - 1] {
             Some(key) => self.new_object(alloc, object, key),
@@ -232,13 +223,12 @@ impl<'a> Flushing<'a> {
     }
 
     /// An object that was persistent.
-    fn persistent_object(&self, alloc: Global, object: ObjId) -> Result<Object, Refusal>
+    fn persistent_object(&self, alloc: Global, object: ObjId) -> Result<Object, AllocError>
         requires flushing { IsFlushing self.now }
         requires object { IsObject self.now.projection.now.arena.now object }
-        ensures object { IfOk result (λ new. new ≡ spec.object_in State.Persistent
+        ensures { IfOk result (λ new. new ≡ spec.object_in State.Persistent
             (written_of self.now) object
             (object_at self.now.projection.now.arena.now object)) }
-        ensures cause { IfErr result (λ e. e ≡ Memory) }
     {
         if is_among(&self.projection.prepared.deleted, object) {
             return self.deleted_object(alloc, object);
@@ -247,12 +237,11 @@ impl<'a> Flushing<'a> {
     }
 
     /// An object after success.
-    fn object_flushed(&self, alloc: Global, object: ObjId) -> Result<Object, Refusal>
+    fn object_flushed(&self, alloc: Global, object: ObjId) -> Result<Object, AllocError>
         requires flushing { IsFlushing self.now }
         requires object { IsObject self.now.projection.now.arena.now object }
-        ensures object { IfOk result (λ new. new ≡ spec.object_flushed (written_of self.now)
+        ensures { IfOk result (λ new. new ≡ spec.object_flushed (written_of self.now)
             object (object_at self.now.projection.now.arena.now object)) }
-        ensures cause { IfErr result (λ e. e ≡ Memory) }
     {
         match self.projection.arena.state_of(object) {
             State::Pending => self.pending_object(alloc, object),
@@ -273,16 +262,15 @@ impl<'a> Flushing<'a> {
 
     /// Whether an object that keeps its rows stays as it is.
     #[tactic(auto, using(crate::proofs::SettledSteps::stays))]
-    fn keeps_object(&self, object: ObjId) -> Result<bool, Refusal>
+    fn keeps_object(&self, object: ObjId) -> Result<bool, AllocError>
         requires flushing { IsFlushing self.now }
         requires object { IsObject self.now.projection.now.arena.now object }
         requires persistent { (object_at self.now.projection.now.arena.now object).state
             ≡ State.Persistent }
-        ensures kept { IfOk result (λ kept. IsTrue kept
+        ensures { IfOk result (λ kept. IsTrue kept
             → spec.staying_object (written_of self.now) object
             (object_at self.now.projection.now.arena.now object)
             ≡ object_at self.now.projection.now.arena.now object) }
-        ensures cause { IfErr result (λ e. e ≡ Memory) }
     {
         let old = self.projection.arena.object(object);
         if !self.keeps_state(object, &old.identity)
@@ -295,14 +283,13 @@ impl<'a> Flushing<'a> {
 
     /// Whether success leaves an object as it is, as far as that is told without memory.
     #[tactic(auto, using(crate::proofs::SettledSteps::stays))]
-    fn is_settled(&self, object: ObjId) -> Result<bool, Refusal>
+    fn is_settled(&self, object: ObjId) -> Result<bool, AllocError>
         requires flushing { IsFlushing self.now }
         requires object { IsObject self.now.projection.now.arena.now object }
-        ensures settled { IfOk result (λ settled. IsTrue settled
+        ensures { IfOk result (λ settled. IsTrue settled
             → spec.object_flushed (written_of self.now) object
             (object_at self.now.projection.now.arena.now object)
             ≡ object_at self.now.projection.now.arena.now object) }
-        ensures cause { IfErr result (λ e. e ≡ Memory) }
     {
         match self.projection.arena.state_of(object) {
             State::Persistent => {
@@ -316,14 +303,13 @@ impl<'a> Flushing<'a> {
     }
 
     /// The record that an object gets, unless it stays as it is.
-    fn record_flushed(&self, alloc: Global, object: ObjId) -> Result<Option<Object>, Refusal>
+    fn record_flushed(&self, alloc: Global, object: ObjId) -> Result<Option<Object>, AllocError>
         requires flushing { IsFlushing self.now }
         requires object { IsObject self.now.projection.now.arena.now object }
-        ensures object { IfOk result (λ given.
+        ensures { IfOk result (λ given.
             unwrap_or given (object_at self.now.projection.now.arena.now object)
             ≡ spec.object_flushed (written_of self.now) object
             (object_at self.now.projection.now.arena.now object)) }
-        ensures cause { IfErr result (λ e. e ≡ Memory) }
     {
         if self.is_settled(object)? {
             return Ok(None);
@@ -333,7 +319,7 @@ impl<'a> Flushing<'a> {
     }
 
     /// The record that an object gets, whose cells and links have numbers.
-    fn narrow_record(&self, alloc: Global, object: ObjId) -> Result<Option<Object>, Refusal>
+    fn narrow_record(&self, alloc: Global, object: ObjId) -> Result<Option<Object>, AllocError>
         requires flushing { IsFlushing self.now }
         requires object { IsObject self.now.projection.now.arena.now object }
         ensures object { IfOk result (λ given.
@@ -342,17 +328,16 @@ impl<'a> Flushing<'a> {
             (object_at self.now.projection.now.arena.now object)) }
         ensures narrow { IfOk result (λ given. IsNarrow
             (unwrap_or given (object_at self.now.projection.now.arena.now object))) }
-        ensures cause { IfErr result (λ e. e ≡ Memory) }
     {
         let given = self.record_flushed(alloc, object)?;
         if !is_narrow_then(self.projection.arena.object(object), &given) {
-            return Err(Refusal::Memory);
+            return Err(AllocError);
         }
         Ok(given)
     }
 
     /// The records that objects get; one that stays as it is gets none.
-    pub(crate) fn records(&self, alloc: Global) -> Result<ListOf<Option<Object>>, Refusal>
+    pub(crate) fn records(&self, alloc: Global) -> Result<ListOf<Option<Object>>, AllocError>
         requires flushing { IsFlushing self.now }
         ensures records { IfOk result (λ records.
             with_records self.now.projection.now.arena.now records
@@ -362,7 +347,6 @@ impl<'a> Flushing<'a> {
         ensures narrow { IfOk result (λ records. AreNarrowThen
             self.now.projection.now.arena.now records
             (length self.now.projection.now.arena.now.objects)) }
-        ensures cause { IfErr result (λ e. e ≡ Memory) }
     {
         let mut records = ListOf::new(alloc);
         for number in 0..self.projection.arena.count() {

@@ -1,7 +1,6 @@
 //! The objects as success of a flush makes them.
 
-ghost use Rattle.std.specs.Prelude.{◌≡◌, true, length, IfErr, IfOk, OnErr, OnOk};
-ghost use Rattle.base_core.specs.declared.refusal.Refusal.TheVariants.{Memory};
+ghost use Rattle.std.specs.Prelude.{◌≡◌, length, IfOk, OnErr, OnOk};
 ghost use Rattle.object_arena.specs.Every.{classes_of};
 ghost use Rattle.object_arena.specs.Fit.{IsFit};
 ghost use Rattle.object_records.specs.Touched.{frames_touched_between};
@@ -10,7 +9,7 @@ ghost use Rattle.graph_flushed.specs.Fitting.{IsFitting};
 ghost use Rattle.graph_flushed.specs.Flushed as spec;
 
 use crate::flushing::Flushing;
-use base_core::{Key, ListOf, Refusal};
+use base_core::{Key, ListOf};
 use class_mapping::Mapping;
 use graph_flushed::{key_holders, new_keys};
 use object_arena::{Arena, Object};
@@ -19,7 +18,7 @@ use object_rows::{Prepared, new_names};
 use object_writes::Projection;
 use savepoints::Frames;
 use schema_core::RowChanges;
-use std::alloc::Global;
+use std::alloc::{AllocError, Global};
 
 /// The records that objects get by success of a flush of a prepared graph whose new rows have these keys.
 fn records_flushed(
@@ -29,15 +28,13 @@ fn records_flushed(
     prepared: &Prepared,
     changes: &RowChanges,
     keys: &ListOf<Key>,
-) -> Result<ListOf<Option<Object>>, Refusal>
-    requires configured { mapping.now.configured ≡ true }
+) -> Result<ListOf<Option<Object>>, AllocError>
     requires fit { IsFit mapping.now arena.now }
     ensures records { IfOk result (λ records. with_records arena.now records
         ≡ spec.graph_flushed mapping.now prepared.now changes.now keys.now arena.now) }
     ensures long { IfOk result (λ records. length records ≡ length arena.now.objects) }
     ensures follow { IfOk result
         (λ records. CanFollow arena.now (with_records arena.now records).objects) }
-    ensures cause { IfErr result (λ e. e ≡ Memory) }
 {
     let names = new_names(alloc, mapping, arena, prepared)?;
     let projection = Projection {
@@ -83,8 +80,7 @@ pub fn settle(
     prepared: &Prepared,
     changes: &RowChanges,
     keys: &ListOf<Key>,
-) -> Result<(), Refusal>
-    requires configured { mapping.now.configured ≡ true }
+) -> Result<(), AllocError>
     requires fit { IsFit mapping.now arena.old }
     ensures ok { OnOk result (arena.new
         ≡ spec.graph_flushed mapping.now prepared.now changes.now keys.now arena.old) }
@@ -95,7 +91,6 @@ pub fn settle(
         prepared.now changes.now keys.now arena.old) → IsFit mapping.now arena.new }
     ensures classes { classes_of arena.new ≡ classes_of arena.old }
     ensures scopes { frames.new.scopes ≡ frames.old.scopes }
-    ensures cause { IfErr result (λ e. e ≡ Memory) }
 {
     let records = records_flushed(alloc, arena, mapping, prepared, changes, keys)?;
     put_records(arena, frames, records)

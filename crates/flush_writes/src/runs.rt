@@ -1,18 +1,17 @@
 //! The INSERTs of a flush: new rows in their order, cut into runs.
 
-ghost use Rattle.std.specs.Prelude.{◌≡◌, ◌<◌, ◌++◌, ◌-◌, ◌*◌, [], ◌∷◌, ℕ, List, cond, map, not, suc, length, nat_lt, IfOk, IfErr, OnOk};
+ghost use Rattle.std.specs.Prelude.{◌≡◌, ◌<◌, ◌++◌, ◌-◌, ◌*◌, [], ◌∷◌, ℕ, List, cond, map, not, suc, length, nat_lt, IfOk, OnOk};
 ghost use Rattle.std.specs.List.{All, list_all, list_any};
-ghost use Rattle.base_core.specs.declared.refusal.Refusal.TheVariants.{Memory};
 ghost use Rattle.flush_order.specs.Cells.{key_parts, table_at};
 ghost use Rattle.flush_writes.specs.Writes.{insert_run};
 ghost use Rattle.flush_order.specs.Ready.{AreReady};
 ghost use Rattle.flush_writes.specs.Runs.{runs_from, nonempty_run, goes_with, is_nothing, joins, leaves_key, runs, width};
 
-use base_core::{ListOf, Refusal, TableId, Value};
+use base_core::{ListOf, TableId, Value};
 use flush_order::NewRows;
 use row_order::Waits;
 use schema_core::{ColumnSpec, Planned, RowCell, RowChanges};
-use std::alloc::Global;
+use std::alloc::{AllocError, Global};
 
 /// Whether a cell is NULL.
 pub fn is_nothing(cell: &RowCell) -> bool
@@ -57,11 +56,10 @@ fn push_run(
     alloc: Global,
     changes: &RowChanges,
     run: &[u32],
-) -> Result<(), Refusal>
+) -> Result<(), AllocError>
     requires { All (λ row. row < length changes.now.fresh) run.now }
-    ensures insert { OnOk result (out.new.items
+    ensures { OnOk result (out.new.items
         ≡ out.old.items ++ map (insert_run changes.now) (nonempty_run run.now)) }
-    ensures cause { IfErr result (λ e. e ≡ Memory) }
 {
     if let Some((first, _rest)) = run.split_first() {
         let table = table_at(changes, *first);
@@ -144,7 +142,7 @@ fn take_row(
     statements: &mut Vec<Planned>,
     run: &mut Vec<u32>,
     row: u32,
-) -> Result<(), Refusal>
+) -> Result<(), AllocError>
     requires ready { AreReady new.now.schema.now new.now.changes.now new.now.rows.now }
     requires run { All (λ other. other < length new.now.rows.now) run.old.items }
     requires row { row < length new.now.rows.now }
@@ -155,7 +153,6 @@ fn take_row(
         (runs_from new.now.schema.now new.now.changes.now run.old.items (row ∷ rest))) }
     ensures within { OnOk result
         (All (λ other. other < length new.now.rows.now) run.new.items) }
-    ensures cause { IfErr result (λ e. e ≡ Memory) }
 {
     if !joins(new, run.as_slice(), row) {
         push_run(statements, alloc, new.changes, run.as_slice())?;
@@ -166,14 +163,13 @@ fn take_row(
 }
 
 #[tactic(auto, using(crate::proofs::RunSteps::cut_steps))]
-/// The INSERTs of rows in this order. The only refusal is `Memory`.
-pub fn inserts(new: &NewRows, alloc: Global, order: &[u32]) -> Result<Vec<Planned>, Refusal>
+/// The INSERTs of rows in this order.
+pub fn inserts(new: &NewRows, alloc: Global, order: &[u32]) -> Result<Vec<Planned>, AllocError>
     requires ready { AreReady new.now.schema.now new.now.changes.now new.now.rows.now }
     requires within { All (λ row. row < length new.now.rows.now) order.now }
-    ensures inserts { IfOk result (λ statements. statements.items
+    ensures { IfOk result (λ statements. statements.items
         ≡ map (insert_run new.now.changes.now)
         (runs new.now.schema.now new.now.changes.now order.now)) }
-    ensures cause { IfErr result (λ e. e ≡ Memory) }
 {
     let mut statements = Vec::new(alloc);
     let mut run = Vec::new(alloc);

@@ -1,8 +1,7 @@
 //! The cells that a flush writes into rows: before all rows stand, or once they do.
 
-ghost use Rattle.std.specs.Prelude.{◌≡◌, ◌<◌, ◌≤◌, ◌++◌, ◌+◌, [], ◌∷◌, cond, not, map, length, true, false, IfOk, IfErr, OnOk, ℕ};
+ghost use Rattle.std.specs.Prelude.{◌≡◌, ◌<◌, ◌≤◌, ◌++◌, ◌+◌, [], ◌∷◌, cond, not, map, length, true, false, IfOk, OnOk, ℕ};
 ghost use Rattle.std.specs.List.{All, filter};
-ghost use Rattle.base_core.specs.declared.refusal.Refusal.TheVariants.{Memory};
 ghost use Rattle.base_core.specs.declared.value.Value.TheVariants.{Null};
 ghost use Rattle.schema_core.specs.declared.changes.RowCell.TheVariants.{Given};
 ghost use Rattle.schema_core.specs.Catalog.{IsTable, spec_of};
@@ -13,10 +12,10 @@ ghost use Rattle.flush_order.specs.Ready.{AreInRange, IsInTable};
 ghost use Rattle.flush_order.specs.Refers.{gone_key};
 
 use crate::runs::is_nothing;
-use base_core::{ColumnNo, Copied, Key, ListOf, Refusal, TableId, Value};
+use base_core::{ColumnNo, Copied, Key, ListOf, TableId, Value};
 use flush_order::{is_late, push_key};
 use schema_core::{ChangedRow, ColumnSpec, GoneRow, Planned, RowCell, RowChanges, Schema};
-use std::alloc::Global;
+use std::alloc::{AllocError, Global};
 
 /// Cells, each with its column.
 pub type Cells = ListOf<(ColumnNo, RowCell)>;
@@ -51,12 +50,11 @@ fn push_when(
     late: bool,
     table: TableId,
     cell: &(ColumnNo, RowCell),
-) -> Result<(), Refusal>
+) -> Result<(), AllocError>
     requires declared { IsTable schema.now table }
     requires column { cell.now.0.0 < length (spec_of schema.now table).columns }
-    ensures cells { OnOk result (out.new ≡ out.old ++ filter
+    ensures { OnOk result (out.new ≡ out.old ++ filter
         (λ cell. is_written_when schema.now changes.now late table cell.0) (cell.now ∷ [])) }
-    ensures cause { IfErr result (λ e. e ≡ Memory) }
 {
     if is_written_when(schema, changes, late, table, cell.0) {
         out.push(cell.copied()?)?;
@@ -64,18 +62,17 @@ fn push_when(
     Ok(())
 }
 
-/// The cells of a changed row that are written before, or after, all rows stand. The only refusal is `Memory`.
+/// The cells of a changed row that are written before, or after, all rows stand.
 pub fn cells_when(
     alloc: Global,
     schema: &Schema,
     changes: &RowChanges,
     late: bool,
     row: &ChangedRow,
-) -> Result<Writing, Refusal>
+) -> Result<Writing, AllocError>
     requires { IsInTable schema.now row.now }
-    ensures cells { IfOk result
+    ensures { IfOk result
         (λ writing. writing ≡ cells_when schema.now changes.now late row.now) }
-    ensures cause { IfErr result (λ e. e ≡ Memory) }
 {
     let mut cells = ListOf::new(alloc);
     for cell in row.cells.as_slice() {
@@ -84,19 +81,17 @@ pub fn cells_when(
     Ok((place_of_changed(row)?, cells))
 }
 
-/// The table and key of a changed row. The only refusal is `Memory`.
-pub fn place_of_changed(row: &ChangedRow) -> Result<Place, Refusal>
-    ensures place { IfOk result (λ place. place ≡ place_of_changed row.now) }
-    ensures cause { IfErr result (λ e. e ≡ Memory) }
+/// The table and key of a changed row.
+pub fn place_of_changed(row: &ChangedRow) -> Result<Place, AllocError>
+    ensures { IfOk result (λ place. place ≡ place_of_changed row.now) }
 {
     Ok((row.name.table, row.key.copied()?))
 }
 
-/// The key of a deleted row. The only refusal is `Memory`.
-pub fn gone_key(alloc: Global, schema: &Schema, row: &GoneRow) -> Result<Key, Refusal>
+/// The key of a deleted row.
+pub fn gone_key(alloc: Global, schema: &Schema, row: &GoneRow) -> Result<Key, AllocError>
     requires { IsTable schema.now row.now.name.table }
-    ensures key { IfOk result (λ key. key ≡ gone_key schema.now row.now) }
-    ensures cause { IfErr result (λ e. e ≡ Memory) }
+    ensures { IfOk result (λ key. key ≡ gone_key schema.now row.now) }
 {
     let mut key = Vec::new(alloc);
     let columns = schema.spec(row.name.table).columns.as_slice();
@@ -104,16 +99,15 @@ pub fn gone_key(alloc: Global, schema: &Schema, row: &GoneRow) -> Result<Key, Re
     Ok(ListOf::from_vec(key))
 }
 
-/// The table and key of a deleted row. The only refusal is `Memory`.
-pub fn place_of_gone(alloc: Global, schema: &Schema, row: &GoneRow) -> Result<Place, Refusal>
+/// The table and key of a deleted row.
+pub fn place_of_gone(alloc: Global, schema: &Schema, row: &GoneRow) -> Result<Place, AllocError>
     requires { IsTable schema.now row.now.name.table }
-    ensures place { IfOk result (λ place. place ≡ place_of_gone schema.now row.now) }
-    ensures cause { IfErr result (λ e. e ≡ Memory) }
+    ensures { IfOk result (λ place. place ≡ place_of_gone schema.now row.now) }
 {
     Ok((row.name.table, gone_key(alloc, schema, row)?))
 }
 
-/// Puts the cells other than NULL in the columns that are written after all rows behind others. The only refusal is `Memory`.
+/// Puts the cells other than NULL in the columns that are written after all rows behind others.
 pub fn push_late(
     out: &mut Cells,
     schema: &Schema,
@@ -122,12 +116,11 @@ pub fn push_late(
     number: u32,
     columns: &[ColumnSpec],
     cells: &[RowCell],
-) -> Result<(), Refusal>
+) -> Result<(), AllocError>
     requires declared { IsTable schema.now table }
     requires narrow { number + length columns.now ≤ 4294967295 }
-    ensures late { OnOk result (out.new ≡ out.old
+    ensures { OnOk result (out.new ≡ out.old
         ++ cells_from_number (is_late schema.now changes.now table) number columns.now cells.now) }
-    ensures cause { IfErr result (λ e. e ≡ Memory) }
 {
     if let (Some((column, columns)), Some((cell, cells))) = (
         columns.split_first(),
@@ -150,13 +143,12 @@ fn push_gone(
     number: u32,
     columns: &[ColumnSpec],
     cells: &[Value],
-) -> Result<(), Refusal>
+) -> Result<(), AllocError>
     requires declared { IsTable schema.now table }
     requires narrow { number + length columns.now ≤ 4294967295 }
-    ensures late { OnOk result (out.new ≡ out.old ++ map (λ cell. (cell.0, Given Null))
+    ensures { OnOk result (out.new ≡ out.old ++ map (λ cell. (cell.0, Given Null))
         (cells_from_number (is_late schema.now changes.now table) number columns.now
         (map Given cells.now))) }
-    ensures cause { IfErr result (λ e. e ≡ Memory) }
 {
     if let (Some((column, columns)), Some((cell, cells))) = (
         columns.split_first(),
@@ -171,17 +163,16 @@ fn push_gone(
 }
 
 #[tactic(auto, using(crate::proofs::WritingSteps::narrow_at))]
-/// What of a deleted row is cleared before it is deleted. The only refusal is `Memory`.
+/// What of a deleted row is cleared before it is deleted.
 pub fn late_gone(
     alloc: Global,
     schema: &Schema,
     changes: &RowChanges,
     row: &GoneRow,
-) -> Result<Writing, Refusal>
+) -> Result<Writing, AllocError>
     requires range { AreInRange schema.now changes.now }
     requires declared { IsTable schema.now row.now.name.table }
-    ensures cells { IfOk result (λ writing. writing ≡ late_gone schema.now changes.now row.now) }
-    ensures cause { IfErr result (λ e. e ≡ Memory) }
+    ensures { IfOk result (λ writing. writing ≡ late_gone schema.now changes.now row.now) }
 {
     let table = row.name.table;
     let columns = schema.spec(table).columns.as_slice();
@@ -199,9 +190,8 @@ pub fn late_gone(
 }
 
 /// Puts values as cells behind others.
-fn push_given(out: &mut ListOf<RowCell>, key: &[Value]) -> Result<(), Refusal>
-    ensures given { OnOk result (out.new ≡ out.old ++ map Given key.now) }
-    ensures cause { IfErr result (λ e. e ≡ Memory) }
+fn push_given(out: &mut ListOf<RowCell>, key: &[Value]) -> Result<(), AllocError>
+    ensures { OnOk result (out.new ≡ out.old ++ map Given key.now) }
 {
     if let Some((value, key)) = key.split_first() {
         out.push(RowCell::Given(value.copied()?))?;
@@ -210,10 +200,9 @@ fn push_given(out: &mut ListOf<RowCell>, key: &[Value]) -> Result<(), Refusal>
     Ok(())
 }
 
-/// The UPDATE that writes these cells. The only refusal is `Memory`.
-pub fn update_of(alloc: Global, writing: &Writing) -> Result<Planned, Refusal>
-    ensures update { IfOk result (λ planned. planned ≡ update_of writing.now) }
-    ensures cause { IfErr result (λ e. e ≡ Memory) }
+/// The UPDATE that writes these cells.
+pub fn update_of(alloc: Global, writing: &Writing) -> Result<Planned, AllocError>
+    ensures { IfOk result (λ planned. planned ≡ update_of writing.now) }
 {
     let mut key = ListOf::new(alloc);
     push_given(&mut key, writing.0.1.as_slice())?;

@@ -90,7 +90,6 @@ fn is_just_of_kind(wanted: Kind, found: Option<Kind>) -> bool
 /// Whether a key has a value of its kind for each column of the key of a class.
 pub fn key_fits(mapping: &Mapping, class: ClassId, key: &Key) -> bool
     requires declared { IsClass mapping.now class }
-    requires configured { mapping.now.configured ≡ true }
     ensures { result ≡ true → spec.key_fits mapping.now class key.now ≡ true }
 {
     let keys = mapping.key_attributes(class);

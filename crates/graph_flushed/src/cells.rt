@@ -1,17 +1,15 @@
 //! Cells that hold what their rows hold, and expired ones.
 
-ghost use Rattle.std.specs.Prelude.{◌≡◌, map, Some, IfOk, IfErr, IsTrue};
-ghost use Rattle.base_core.specs.declared.refusal.Refusal.TheVariants.{Memory};
+ghost use Rattle.std.specs.Prelude.{◌≡◌, map, Some, IfOk, IsTrue};
 ghost use Rattle.graph_flushed.specs.Flushed as spec;
 
-use base_core::{Copied, ListOf, Refusal, Value, compare};
+use base_core::{Copied, ListOf, Value, compare};
 use object_arena::Cell;
-use std::alloc::Global;
+use std::alloc::{AllocError, Global};
 
-/// A cell that holds what its row holds. The only refusal is `Memory`.
-pub fn held_cell(value: Value) -> Result<Cell, Refusal>
-    ensures cell { IfOk result (λ cell. cell ≡ spec.held_cell value) }
-    ensures cause { IfErr result (λ e. e ≡ Memory) }
+/// A cell that holds what its row holds.
+pub fn held_cell(value: Value) -> Result<Cell, AllocError>
+    ensures { IfOk result (λ cell. cell ≡ spec.held_cell value) }
 {
     let base = value.copied()?;
     Ok(Cell {
@@ -42,10 +40,9 @@ pub fn is_kept(cell: &Cell) -> bool
     }
 }
 
-/// A cell whose row has its value. The only refusal is `Memory`.
-pub fn kept_cell(cell: &Cell) -> Result<Cell, Refusal>
-    ensures cell { IfOk result (λ kept. kept ≡ spec.kept_cell cell.now) }
-    ensures cause { IfErr result (λ e. e ≡ Memory) }
+/// A cell whose row has its value.
+pub fn kept_cell(cell: &Cell) -> Result<Cell, AllocError>
+    ensures { IfOk result (λ kept. kept ≡ spec.kept_cell cell.now) }
 {
     match &cell.value {
         Some(value) => held_cell(value.copied()?),
@@ -53,11 +50,10 @@ pub fn kept_cell(cell: &Cell) -> Result<Cell, Refusal>
     }
 }
 
-/// The cells of an object whose rows are deleted. The only refusal is `Memory`.
+/// The cells of an object whose rows are deleted.
 #[tactic(auto, using(class_layouts::proofs::Steps::steps))]
-pub fn kept_cells(alloc: Global, cells: &[Cell]) -> Result<ListOf<Cell>, Refusal>
-    ensures cells { IfOk result (λ kept. kept ≡ map spec.kept_cell cells.now) }
-    ensures cause { IfErr result (λ e. e ≡ Memory) }
+pub fn kept_cells(alloc: Global, cells: &[Cell]) -> Result<ListOf<Cell>, AllocError>
+    ensures { IfOk result (λ kept. kept ≡ map spec.kept_cell cells.now) }
 {
     let mut kept = ListOf::new(alloc);
     for cell in cells {

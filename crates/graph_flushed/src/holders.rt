@@ -1,24 +1,22 @@
 //! The new objects by their keys.
 
-ghost use Rattle.std.specs.Prelude.{◌≡◌, length, IfOk, IfErr, OnOk};
-ghost use Rattle.base_core.specs.declared.refusal.Refusal.TheVariants.{Memory};
+ghost use Rattle.std.specs.Prelude.{◌≡◌, length, IfOk, OnOk};
 ghost use Rattle.object_arena.specs.Graph.{IsObject, root_at};
 ghost use Rattle.graph_flushed.specs.Ready.{AreHolders, IsEntered};
 
-use base_core::{Copied, Key, ObjId, Refusal};
+use base_core::{Copied, Key, ObjId};
 use object_arena::{Arena, IdentityMap};
-use std::alloc::Global;
+use std::alloc::{AllocError, Global};
 
-/// The new objects by their roots and keys. Each is put in after those behind it, so that of several the first stays. The only refusal is `Memory`.
+/// The new objects by their roots and keys. Each is put in after those behind it, so that of several the first stays.
 pub fn key_holders(
     alloc: Global,
     arena: &Arena,
     keys: &[Option<Key>],
-) -> Result<IdentityMap, Refusal>
+) -> Result<IdentityMap, AllocError>
     requires { length keys.now ≡ length arena.now.objects }
-    ensures holders { IfOk result
+    ensures { IfOk result
         (λ holders. AreHolders holders.maps.items keys.now arena.now.roots) }
-    ensures cause { IfErr result (λ e. e ≡ Memory) }
 {
     let mut holders = IdentityMap::new(alloc);
     let count = arena.count();
@@ -35,11 +33,10 @@ fn enter(
     arena: &Arena,
     object: ObjId,
     key: &Option<Key>,
-) -> Result<(), Refusal>
+) -> Result<(), AllocError>
     requires { IsObject arena.now object }
-    ensures entered { OnOk result (IsEntered holders.old.maps.items holders.new.maps.items
+    ensures { OnOk result (IsEntered holders.old.maps.items holders.new.maps.items
         key.now (root_at arena.now object) object) }
-    ensures cause { IfErr result (λ e. e ≡ Memory) }
 {
     match key {
         Some(key) => {

@@ -1,8 +1,7 @@
 //! The keys that new objects have once their rows were written.
 
-ghost use Rattle.std.specs.Prelude.{◌≡◌, [], true, length, map, slice_index_or, IfOk, IfErr};
+ghost use Rattle.std.specs.Prelude.{◌≡◌, [], length, map, slice_index_or, IfOk};
 ghost use Rattle.std.specs.Option.{option_copied, unwrap_or};
-ghost use Rattle.base_core.specs.declared.refusal.Refusal.TheVariants.{Memory};
 ghost use Rattle.class_mapping.specs.Mapped.{IsAttribute, IsClass};
 ghost use Rattle.object_arena.specs.Fit.{IsFit};
 ghost use Rattle.object_arena.specs.Fit as fit;
@@ -10,12 +9,12 @@ ghost use Rattle.object_arena.specs.Graph.{IsObject};
 ghost use Rattle.graph_flushed.specs.Keys as spec;
 ghost use Rattle.graph_flushed.specs.Ready.{AreRowKeys};
 
-use base_core::{AttrNo, ClassId, Copied, Key, Kind, ListOf, ObjId, Refusal, RowName, Value};
+use base_core::{AttrNo, ClassId, Copied, Key, Kind, ListOf, ObjId, RowName, Value};
 use class_mapping::Mapping;
 use object_arena::Arena;
 use object_rows::{Prepared, RowNames, is_new, object_ids};
 use schema_core::{ChangedRow, NewRow, RowChanges, kind_of_value, same_kind};
-use std::alloc::Global;
+use std::alloc::{AllocError, Global};
 
 /// The new and changed rows of a flush, found by table and object, and the keys of the new ones in their order.
 #[derive(Drop)]
@@ -27,18 +26,16 @@ pub(crate) struct RowKeys<'a> {
 }
 
 /// The names of new rows.
-fn fresh_list(alloc: Global, rows: &[NewRow]) -> Result<Vec<RowName>, Refusal>
-    ensures names { IfOk result (λ names. names.items ≡ map (λ row. row.name) rows.now) }
-    ensures cause { IfErr result (λ e. e ≡ Memory) }
+fn fresh_list(alloc: Global, rows: &[NewRow]) -> Result<Vec<RowName>, AllocError>
+    ensures { IfOk result (λ names. names.items ≡ map (λ row. row.name) rows.now) }
 {
     Ok(rows.iter().map(|row| row.name).collect(alloc)?)
 }
 
 #[tactic(auto, using(class_layouts::proofs::Steps::steps))]
 /// The names of changed rows.
-fn changed_list(alloc: Global, rows: &[ChangedRow]) -> Result<Vec<RowName>, Refusal>
-    ensures names { IfOk result (λ names. names.items ≡ map (λ row. row.name) rows.now) }
-    ensures cause { IfErr result (λ e. e ≡ Memory) }
+fn changed_list(alloc: Global, rows: &[ChangedRow]) -> Result<Vec<RowName>, AllocError>
+    ensures { IfOk result (λ names. names.items ≡ map (λ row. row.name) rows.now) }
 {
     let mut names = Vec::new(alloc);
     for row in rows {
@@ -48,27 +45,24 @@ fn changed_list(alloc: Global, rows: &[ChangedRow]) -> Result<Vec<RowName>, Refu
 }
 
 /// New rows found by table and object.
-fn fresh_names(alloc: Global, rows: &[NewRow]) -> Result<RowNames, Refusal>
-    ensures names { IfOk result (λ names. names ≡ map (λ row. row.name) rows.now) }
-    ensures cause { IfErr result (λ e. e ≡ Memory) }
+fn fresh_names(alloc: Global, rows: &[NewRow]) -> Result<RowNames, AllocError>
+    ensures { IfOk result (λ names. names ≡ map (λ row. row.name) rows.now) }
 {
     let names = fresh_list(alloc, rows)?;
     RowNames::new(alloc, names)
 }
 
 /// Changed rows found by table and object.
-fn changed_names(alloc: Global, rows: &[ChangedRow]) -> Result<RowNames, Refusal>
-    ensures names { IfOk result (λ names. names ≡ map (λ row. row.name) rows.now) }
-    ensures cause { IfErr result (λ e. e ≡ Memory) }
+fn changed_names(alloc: Global, rows: &[ChangedRow]) -> Result<RowNames, AllocError>
+    ensures { IfOk result (λ names. names ≡ map (λ row. row.name) rows.now) }
 {
     let names = changed_list(alloc, rows)?;
     RowNames::new(alloc, names)
 }
 
 /// A copy of a key, or of none an empty one.
-fn copied_or_empty(alloc: Global, key: Option<&Key>) -> Result<Key, Refusal>
-    ensures key { IfOk result (λ copy. copy ≡ unwrap_or (option_copied key.entry) []) }
-    ensures cause { IfErr result (λ e. e ≡ Memory) }
+fn copied_or_empty(alloc: Global, key: Option<&Key>) -> Result<Key, AllocError>
+    ensures { IfOk result (λ copy. copy ≡ unwrap_or (option_copied key.entry) []) }
 {
     match key {
         Some(key) => Ok(key.copied()?),
@@ -84,10 +78,9 @@ impl<'a> RowKeys<'a> {
         alloc: Global,
         place: Option<usize>,
         other: Option<usize>,
-    ) -> Result<Key, Refusal>
-        ensures key { IfOk result (λ key. key ≡ spec.key_at self.now.keys.now place
+    ) -> Result<Key, AllocError>
+        ensures { IfOk result (λ key. key ≡ spec.key_at self.now.keys.now place
             (map (λ row. row.key) self.now.changes.now.changed) other) }
-        ensures cause { IfErr result (λ e. e ≡ Memory) }
     {
         if let Some(place) = place {
             return copied_or_empty(alloc, self.keys.get(place));
@@ -105,13 +98,12 @@ impl<'a> RowKeys<'a> {
         mapping: &Mapping,
         arena: &Arena,
         object: ObjId,
-    ) -> Result<Key, Refusal>
+    ) -> Result<Key, AllocError>
         requires rows { AreRowKeys self.now }
         requires fit { IsFit mapping.now arena.now }
         requires object { IsObject arena.now object }
-        ensures key { IfOk result (λ key. key ≡ spec.new_key mapping.now arena.now
+        ensures { IfOk result (λ key. key ≡ spec.new_key mapping.now arena.now
             self.now.changes.now self.now.keys.now object) }
-        ensures cause { IfErr result (λ e. e ≡ Memory) }
     {
         let table = mapping.root_table(arena.class_of(object));
         let place = self.fresh.place_of(table, object);
@@ -127,14 +119,12 @@ impl<'a> RowKeys<'a> {
         arena: &Arena,
         prepared: &Prepared,
         object: ObjId,
-    ) -> Result<Option<Key>, Refusal>
+    ) -> Result<Option<Key>, AllocError>
         requires rows { AreRowKeys self.now }
-        requires configured { mapping.now.configured ≡ true }
         requires fit { IsFit mapping.now arena.now }
         requires object { IsObject arena.now object }
-        ensures key { IfOk result (λ key. key ≡ spec.key_if_new mapping.now arena.now prepared.now
+        ensures { IfOk result (λ key. key ≡ spec.key_if_new mapping.now arena.now prepared.now
             self.now.changes.now self.now.keys.now object) }
-        ensures cause { IfErr result (λ e. e ≡ Memory) }
     {
         if !is_new(arena, prepared, object) {
             return Ok(None);
@@ -154,13 +144,11 @@ impl<'a> RowKeys<'a> {
         mapping: &Mapping,
         arena: &Arena,
         prepared: &Prepared,
-    ) -> Result<Vec<Option<Key>>, Refusal>
+    ) -> Result<Vec<Option<Key>>, AllocError>
         requires rows { AreRowKeys self.now }
-        requires configured { mapping.now.configured ≡ true }
         requires fit { IsFit mapping.now arena.now }
-        ensures keys { IfOk result (λ all. all.items ≡ spec.new_keys mapping.now arena.now
+        ensures { IfOk result (λ all. all.items ≡ spec.new_keys mapping.now arena.now
             prepared.now self.now.changes.now self.now.keys.now) }
-        ensures cause { IfErr result (λ e. e ≡ Memory) }
     {
         let ids = object_ids(alloc, arena)?;
         let mut all = Vec::new(alloc);
@@ -185,7 +173,6 @@ fn is_just_of_kind(wanted: Kind, found: Option<Kind>) -> bool
 /// Whether a value is not NULL, and of the kind of an attribute of the key.
 fn value_fits(mapping: &Mapping, class: ClassId, attr: AttrNo, value: &Value) -> bool
     requires declared { IsClass mapping.now class }
-    requires configured { mapping.now.configured ≡ true }
     requires attr { IsAttribute mapping.now class attr }
     ensures { result ≡ fit.key_value_fits mapping.now class attr value.now }
 {
@@ -197,7 +184,6 @@ fn value_fits(mapping: &Mapping, class: ClassId, attr: AttrNo, value: &Value) ->
 /// Whether a key has a value of its kind for each attribute of the key of a class.
 fn key_fits(mapping: &Mapping, class: ClassId, key: &Key) -> bool
     requires declared { IsClass mapping.now class }
-    requires configured { mapping.now.configured ≡ true }
     ensures { result ≡ fit.key_fits mapping.now class key.now }
 {
     let attributes = mapping.key_attributes(class);
@@ -212,10 +198,9 @@ fn key_fits(mapping: &Mapping, class: ClassId, key: &Key) -> bool
 
 #[tactic(auto, using(crate::proofs::KeySteps::key_steps))]
 /// The key of the changed row at a place, or an empty one.
-fn changed_key(alloc: Global, rows: &[ChangedRow], place: usize) -> Result<Key, Refusal>
-    ensures key { IfOk result
+fn changed_key(alloc: Global, rows: &[ChangedRow], place: usize) -> Result<Key, AllocError>
+    ensures { IfOk result
         (λ key. key ≡ slice_index_or (map (λ row. row.key) rows.now) place []) }
-    ensures cause { IfErr result (λ e. e ≡ Memory) }
 {
     match rows.get(place) {
         Some(row) => Ok(row.key.copied()?),
@@ -224,7 +209,7 @@ fn changed_key(alloc: Global, rows: &[ChangedRow], place: usize) -> Result<Key, 
 }
 
 #[tactic(auto, using(crate::proofs::KeySteps::keys_counted))]
-/// The keys of the new objects, each at its object's place, where the new rows have these keys in their order. The only refusal is `Memory`.
+/// The keys of the new objects, each at its object's place, where the new rows have these keys in their order.
 pub fn new_keys(
     alloc: Global,
     arena: &Arena,
@@ -232,13 +217,11 @@ pub fn new_keys(
     prepared: &Prepared,
     changes: &RowChanges,
     keys: &ListOf<Key>,
-) -> Result<Vec<Option<Key>>, Refusal>
-    requires configured { mapping.now.configured ≡ true }
+) -> Result<Vec<Option<Key>>, AllocError>
     requires fit { IsFit mapping.now arena.now }
     ensures keys { IfOk result (λ all. all.items ≡ spec.new_keys mapping.now arena.now
         prepared.now changes.now keys.now) }
     ensures long { IfOk result (λ all. length all.items ≡ length arena.now.objects) }
-    ensures cause { IfErr result (λ e. e ≡ Memory) }
 {
     let fresh = fresh_names(alloc, changes.fresh.as_slice())?;
     let changed = changed_names(alloc, changes.changed.as_slice())?;

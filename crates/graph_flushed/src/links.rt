@@ -1,17 +1,16 @@
 //! The links of objects after success.
 
-ghost use Rattle.std.specs.Prelude.{◌≡◌, map, IfOk, IfErr, IsTrue};
+ghost use Rattle.std.specs.Prelude.{◌≡◌, map, IfOk, IsTrue};
 ghost use Rattle.std.specs.List.{enumerate_from};
-ghost use Rattle.base_core.specs.declared.refusal.Refusal.TheVariants.{Memory};
 ghost use Rattle.object_rows.specs.Seen.{is_cleared};
 ghost use Rattle.graph_flushed.specs.Flushed as spec;
 
-use base_core::{Copied, ListOf, ObjId, Refusal, RelNo};
+use base_core::{Copied, ListOf, ObjId, RelNo};
 use class_layouts::number_of;
 use object_arena::Link;
 use object_parts::kept_link;
 use object_rows::Prepared;
-use std::alloc::Global;
+use std::alloc::{AllocError, Global};
 
 /// Whether an object's link is to become none.
 fn is_cleared(prepared: &Prepared, object: ObjId, relation: RelNo) -> bool
@@ -24,9 +23,8 @@ fn is_cleared(prepared: &Prepared, object: ObjId, relation: RelNo) -> bool
 }
 
 /// A link of a prepared graph, where it may be one that becomes none.
-fn prepared_link(is_cleared: bool, link: &Link) -> Result<Link, Refusal>
-    ensures link { IfOk result (λ prepared. prepared ≡ spec.prepared_link is_cleared link.now) }
-    ensures cause { IfErr result (λ e. e ≡ Memory) }
+fn prepared_link(is_cleared: bool, link: &Link) -> Result<Link, AllocError>
+    ensures { IfOk result (λ prepared. prepared ≡ spec.prepared_link is_cleared link.now) }
 {
     if is_cleared {
         return Ok(Link::One {
@@ -37,17 +35,16 @@ fn prepared_link(is_cleared: bool, link: &Link) -> Result<Link, Refusal>
     Ok(link.copied()?)
 }
 
-/// The links of an object in a prepared graph. The only refusal is `Memory`.
+/// The links of an object in a prepared graph.
 #[tactic(auto, using(class_layouts::proofs::Steps::steps))]
 pub fn prepared_links(
     alloc: Global,
     prepared: &Prepared,
     object: ObjId,
     links: &[Link],
-) -> Result<ListOf<Link>, Refusal>
-    ensures links { IfOk result
+) -> Result<ListOf<Link>, AllocError>
+    ensures { IfOk result
         (λ all. all ≡ spec.prepared_links prepared.now object links.now) }
-    ensures cause { IfErr result (λ e. e ≡ Memory) }
 {
     let mut all = ListOf::new(alloc);
     for (number, link) in links.iter().enumerate() {
@@ -76,11 +73,10 @@ fn keeps_link(is_cleared: bool, link: &Link) -> bool
     !is_cleared && is_kept(link)
 }
 
-/// Whether the links of an object that was written stay as they are. The only refusal is `Memory`, and it takes none.
-pub fn keeps_links(prepared: &Prepared, object: ObjId, links: &[Link]) -> Result<bool, Refusal>
-    ensures kept { IfOk result (λ kept. IsTrue kept
+/// Whether the links of an object that was written stay as they are. Where memory runs out it takes none.
+pub fn keeps_links(prepared: &Prepared, object: ObjId, links: &[Link]) -> Result<bool, AllocError>
+    ensures { IfOk result (λ kept. IsTrue kept
         → spec.kept_links prepared.now object links.now ≡ links.now) }
-    ensures cause { IfErr result (λ e. e ≡ Memory) }
 {
     for (number, link) in links.iter().enumerate() {
         let is_none = is_cleared(prepared, object, RelNo(number_of(number)?));
@@ -93,9 +89,8 @@ pub fn keeps_links(prepared: &Prepared, object: ObjId, links: &[Link]) -> Result
 
 /// These links without flags and kept changes.
 #[tactic(auto, using(class_layouts::proofs::Steps::steps))]
-fn without_flags(alloc: Global, links: &[Link]) -> Result<ListOf<Link>, Refusal>
-    ensures links { IfOk result (λ all. all ≡ map spec.kept_link links.now) }
-    ensures cause { IfErr result (λ e. e ≡ Memory) }
+fn without_flags(alloc: Global, links: &[Link]) -> Result<ListOf<Link>, AllocError>
+    ensures { IfOk result (λ all. all ≡ map spec.kept_link links.now) }
 {
     let mut all = ListOf::new(alloc);
     for link in links {
@@ -104,15 +99,14 @@ fn without_flags(alloc: Global, links: &[Link]) -> Result<ListOf<Link>, Refusal>
     Ok(all)
 }
 
-/// The links of an object that was written. The only refusal is `Memory`.
+/// The links of an object that was written.
 pub fn kept_links(
     alloc: Global,
     prepared: &Prepared,
     object: ObjId,
     links: &[Link],
-) -> Result<ListOf<Link>, Refusal>
-    ensures links { IfOk result (λ all. all ≡ spec.kept_links prepared.now object links.now) }
-    ensures cause { IfErr result (λ e. e ≡ Memory) }
+) -> Result<ListOf<Link>, AllocError>
+    ensures { IfOk result (λ all. all ≡ spec.kept_links prepared.now object links.now) }
 {
     let all = prepared_links(alloc, prepared, object, links)?;
     without_flags(alloc, all.as_slice())

@@ -1,21 +1,20 @@
 //! Values that may be missing, and the column that tells the class of a row.
 
-ghost use Rattle.std.specs.Prelude.{◌≡◌, IfOk, IfErr};
-ghost use Rattle.base_core.specs.declared.refusal.Refusal.TheVariants.{Memory};
+ghost use Rattle.std.specs.Prelude.{◌≡◌, IfOk};
 ghost use Rattle.class_mapping.specs.Mapped.{IsClass};
 ghost use Rattle.class_layouts.specs.Faults.{is_named};
 ghost use Rattle.object_rows.specs.Cells.{key_value};
 ghost use Rattle.object_rows.specs.Rows.{is_discriminator};
 ghost use Rattle.schema_core.specs.Tables.{value_or_null};
 
-use base_core::{ClassId, Copied, Key, Name, Refusal, TableId, Value};
+use base_core::{ClassId, Copied, Key, Name, TableId, Value};
 use class_mapping::Mapping;
 use object_rows::part_of_key;
+use std::alloc::AllocError;
 
-/// A value that is known, or NULL. The only refusal is `Memory`.
-pub fn known_value(known: &Option<Value>) -> Result<Value, Refusal>
-    ensures value { IfOk result (λ value. value ≡ value_or_null known.now) }
-    ensures cause { IfErr result (λ e. e ≡ Memory) }
+/// A value that is known, or NULL.
+pub fn known_value(known: &Option<Value>) -> Result<Value, AllocError>
+    ensures { IfOk result (λ value. value ≡ value_or_null known.now) }
 {
     match known {
         Some(value) => Ok(value.copied()?),
@@ -23,10 +22,9 @@ pub fn known_value(known: &Option<Value>) -> Result<Value, Refusal>
     }
 }
 
-/// A part of a key that may not be there, or NULL. The only refusal is `Memory`.
-pub fn part_or_null(key: &Option<Key>, part: u32) -> Result<Value, Refusal>
-    ensures value { IfOk result (λ value. value ≡ key_value key.now part) }
-    ensures cause { IfErr result (λ e. e ≡ Memory) }
+/// A part of a key that may not be there, or NULL.
+pub fn part_or_null(key: &Option<Key>, part: u32) -> Result<Value, AllocError>
+    ensures { IfOk result (λ value. value ≡ key_value key.now part) }
 {
     match key {
         Some(key) => part_of_key(key, part),

@@ -1,6 +1,6 @@
 //! The objects of the parts of a row.
 
-ghost use Rattle.std.specs.Prelude.{◌≡◌, ◌++◌, ◌∷◌, [], true, length, IfErr, IfOk, OnOk};
+ghost use Rattle.std.specs.Prelude.{◌++◌, ◌∷◌, [], length, IfErr, IfOk, OnOk};
 ghost use Rattle.std.specs.List.{All, AllByRecursion};
 ghost use Rattle.base_core.specs.declared.refusal.Refusal.TheVariants.{Memory};
 ghost use Rattle.class_mapping.specs.Mapped.{IsClass};
@@ -20,7 +20,6 @@ use base_core::{ListOf, ObjId, Refusal, Value};
 use class_mapping::Mapping;
 use keeper_core::Notes;
 use load_rows::take_row;
-use mapping_laws::has_hierarchies;
 use object_arena::Arena;
 use std::alloc::Global;
 
@@ -35,7 +34,6 @@ fn take_member(
     notes: &mut Notes,
 ) -> Result<Option<ObjId>, Refusal>
     requires target { IsClass mapping.now part.target }
-    requires configured { mapping.now.configured ≡ true }
     requires fit { IsFit mapping.now arena.old }
     requires kinds { AreOfKinds mapping.now part.target (values_from part row.now) }
     ensures step { Runs alone (λ member. member) (spec.take_member mapping.now row.now part)
@@ -45,7 +43,7 @@ fn take_member(
     ensures fits { IsFit mapping.now arena.new }
     ensures refuses { IfErr result CanRefuseRow }
 {
-    has_hierarchies(mapping);
+    let _ = mapping.schema();
     let is_there = has_target(alloc, mapping, part, row)?;
     if !is_there {
         return Ok(None);
@@ -66,7 +64,6 @@ fn take_next(
     notes: &mut Notes,
 ) -> Result<(), Refusal>
     requires target { IsClass mapping.now part.target }
-    requires configured { mapping.now.configured ≡ true }
     requires fit { IsFit mapping.now arena.old }
     requires kinds { AreOfKinds mapping.now part.target (values_from part row.now) }
     ensures step { Runs alone (λ _. members.new) (spec.take_next mapping.now row.now part members.old)
@@ -77,7 +74,7 @@ fn take_next(
     ensures refuses { IfErr result CanRefuseRow }
 {
     let member = take_member(alloc, arena, mapping, row, part, notes)?;
-    members.push(member)
+    Ok(members.push(member)?)
 }
 
 /// The objects of the parts that a row has of joined options, one for each.
@@ -91,7 +88,6 @@ pub(crate) fn take_members(
     notes: &mut Notes,
 ) -> Result<ListOf<Option<ObjId>>, Refusal>
     requires targets { All (λ part. IsClass mapping.now part.target) parts.now }
-    requires configured { mapping.now.configured ≡ true }
     requires fit { IsFit mapping.now arena.old }
     requires kinds { AllByRecursion
         (λ part. AreOfKinds mapping.now part.target (values_from part row.now)) parts.now }

@@ -1,18 +1,17 @@
 //! The values of a row, part by part.
 
-ghost use Rattle.std.specs.Prelude.{◌≡◌, true, drop, not, take, IfErr, IfOk};
+ghost use Rattle.std.specs.Prelude.{◌≡◌, true, drop, not, take, IfOk};
 ghost use Rattle.std.specs.List.{list_all};
-ghost use Rattle.base_core.specs.declared.refusal.Refusal.TheVariants.{Memory};
 ghost use Rattle.schema_core.specs.Tables.{is_null};
 ghost use Rattle.class_mapping.specs.Mapped.{IsClass};
 ghost use Rattle.joined_rows.specs.Parts.{own_values, values_from};
 ghost use Rattle.joined_rows.specs.Taking as spec;
 
 use crate::Part;
-use base_core::{ClassId, Refusal, Value};
+use base_core::{ClassId, Value};
 use class_mapping::Mapping;
 use load_filling::row_key;
-use std::alloc::Global;
+use std::alloc::{AllocError, Global};
 
 /// The values from a place on.
 #[tactic(auto, using(std::proofs::lemmas::List::drop_min))]
@@ -33,7 +32,6 @@ fn up_to(values: &[Value], count: usize) -> &[Value]
 /// What a row has of its class.
 pub(crate) fn own_values<'a>(mapping: &Mapping, class: ClassId, row: &'a [Value]) -> &'a [Value]
     requires class { IsClass mapping.now class }
-    requires configured { mapping.now.configured ≡ true }
     ensures { result.now ≡ own_values mapping.now class row.now }
 {
     up_to(row, mapping.attributes(class).len())
@@ -76,11 +74,9 @@ pub(crate) fn has_target(
     mapping: &Mapping,
     part: Part,
     row: &[Value],
-) -> Result<bool, Refusal>
+) -> Result<bool, AllocError>
     requires target { IsClass mapping.now part.target }
-    requires configured { mapping.now.configured ≡ true }
-    ensures has { IfOk result (λ has. has ≡ spec.has_target mapping.now part row.now) }
-    ensures cause { IfErr result (λ e. e ≡ Memory) }
+    ensures { IfOk result (λ has. has ≡ spec.has_target mapping.now part row.now) }
 {
     let key = row_key(alloc, mapping, part.target, values_from(part, row))?;
     Ok(are_given(key.as_slice()) && are_given(further_keys(part, row)))

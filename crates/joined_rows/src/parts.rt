@@ -1,18 +1,17 @@
 //! Where the columns of joined options stand in a row. The only refusal is `Memory`.
 
-ghost use Rattle.std.specs.Prelude.{◌≡◌, ◌<◌, true, length, IfErr, IfOk};
+ghost use Rattle.std.specs.Prelude.{◌≡◌, ◌<◌, length, IfOk};
 ghost use Rattle.std.specs.List.{All};
-ghost use Rattle.base_core.specs.declared.refusal.Refusal.TheVariants.{Memory};
 ghost use Rattle.class_mapping.specs.Mapped.{IsClass, relations_of};
 ghost use Rattle.joined_rows.specs.Parts as spec;
 
-use base_core::{ClassId, ListOf, Refusal, RelNo};
+use base_core::{ClassId, ListOf, RelNo};
 use class_layouts::number_of;
 use class_mapping::{Mapping, Relation};
 use load_columns::from_root;
 use load_rows::relation_at;
 use main_selects::option_columns;
-use std::alloc::Global;
+use std::alloc::{AllocError, Global};
 
 /// What a row of a main select has of one joined option, the one of the relationship at `place`: the attributes of the target from
 /// `first` on, and the keys of the target's tables behind its root's from `keys` on. `end` is the place behind them.
@@ -26,21 +25,17 @@ pub struct Part {
 }
 
 /// How many attributes a class has.
-fn width_of(mapping: &Mapping, class: ClassId) -> Result<u32, Refusal>
+fn width_of(mapping: &Mapping, class: ClassId) -> Result<u32, AllocError>
     requires class { IsClass mapping.now class }
-    requires configured { mapping.now.configured ≡ true }
-    ensures width { IfOk result (λ width. width ≡ spec.width_of mapping.now class) }
-    ensures cause { IfErr result (λ e. e ≡ Memory) }
+    ensures { IfOk result (λ width. width ≡ spec.width_of mapping.now class) }
 {
     number_of(mapping.attributes(class).len())
 }
 
 /// How many columns an option reads of its target.
-fn option_width(alloc: Global, mapping: &Mapping, class: ClassId) -> Result<u32, Refusal>
+fn option_width(alloc: Global, mapping: &Mapping, class: ClassId) -> Result<u32, AllocError>
     requires class { IsClass mapping.now class }
-    requires configured { mapping.now.configured ≡ true }
-    ensures width { IfOk result (λ width. width ≡ spec.option_width mapping.now class) }
-    ensures cause { IfErr result (λ e. e ≡ Memory) }
+    ensures { IfOk result (λ width. width ≡ spec.option_width mapping.now class) }
 {
     let columns = option_columns(alloc, mapping, class, from_root(0))?;
     number_of(columns.len())
@@ -53,12 +48,10 @@ fn part_from(
     place: RelNo,
     relation: &Relation,
     first: u32,
-) -> Result<Part, Refusal>
+) -> Result<Part, AllocError>
     requires target { IsClass mapping.now relation.now.target }
-    requires configured { mapping.now.configured ≡ true }
-    ensures part { IfOk result
+    ensures { IfOk result
         (λ part. part ≡ spec.part_from mapping.now place relation.now first) }
-    ensures cause { IfErr result (λ e. e ≡ Memory) }
 {
     let target = relation.target;
     let attributes = width_of(mapping, target)?;
@@ -79,15 +72,13 @@ fn part_at(
     class: ClassId,
     place: RelNo,
     first: u32,
-) -> Result<Part, Refusal>
+) -> Result<Part, AllocError>
     requires class { IsClass mapping.now class }
-    requires configured { mapping.now.configured ≡ true }
     requires place { place.0 < length (relations_of mapping.now class) }
-    ensures part { IfOk result
+    ensures { IfOk result
         (λ part. part ≡ spec.part_at mapping.now class place first) }
-    ensures cause { IfErr result (λ e. e ≡ Memory) }
 {
-    let _ = mapping.is_configured();
+    let _ = mapping.schema();
     part_from(
         alloc,
         mapping,
@@ -105,14 +96,12 @@ pub fn parts_of(
     mapping: &Mapping,
     class: ClassId,
     places: &[RelNo],
-) -> Result<ListOf<Part>, Refusal>
+) -> Result<ListOf<Part>, AllocError>
     requires class { IsClass mapping.now class }
-    requires configured { mapping.now.configured ≡ true }
     requires places { All
         (λ place. place.0 < length (relations_of mapping.now class)) places.now }
-    ensures parts { IfOk result
+    ensures { IfOk result
         (λ parts. parts ≡ spec.parts_of mapping.now class places.now) }
-    ensures cause { IfErr result (λ e. e ≡ Memory) }
 {
     let mut parts = ListOf::new(alloc);
     let mut first = width_of(mapping, class)?;

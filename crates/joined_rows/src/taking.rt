@@ -1,6 +1,6 @@
 //! The objects of rows.
 
-ghost use Rattle.std.specs.Prelude.{◌≡◌, true, IfErr, IfOk, OnOk};
+ghost use Rattle.std.specs.Prelude.{IfErr, IfOk, OnOk};
 ghost use Rattle.std.specs.List.{All, AllByRecursion};
 ghost use Rattle.class_mapping.specs.Mapped.{IsClass};
 ghost use Rattle.object_arena.specs.Fit.{IsFit};
@@ -35,7 +35,6 @@ fn take_owner(
 ) -> Result<Taken, Refusal>
     requires class { IsClass mapping.now class }
     requires targets { All (λ part. IsClass mapping.now part.target) parts.now }
-    requires configured { mapping.now.configured ≡ true }
     requires fit { IsFit mapping.now arena.old }
     requires row { IsJoinedRow mapping.now class parts.now row.now }
     ensures step { Runs alone (λ taken. taken) (spec.take_owner mapping.now class parts.now row.now)
@@ -64,7 +63,6 @@ fn take_one(
 ) -> Result<(), Refusal>
     requires class { IsClass mapping.now class }
     requires targets { All (λ part. IsClass mapping.now part.target) parts.now }
-    requires configured { mapping.now.configured ≡ true }
     requires fit { IsFit mapping.now arena.old }
     requires row { IsJoinedRow mapping.now class parts.now row.now }
     ensures step { Runs alone (λ _. taken.new) (spec.take_one mapping.now class parts.now row.now taken.old)
@@ -76,7 +74,7 @@ fn take_one(
     ensures refuses { IfErr result CanRefuseRow }
 {
     let one = take_owner(alloc, arena, mapping, class, parts, row, notes)?;
-    taken.push(one)
+    Ok(taken.push(one)?)
 }
 
 /// The objects of the rows of a main select, in order, each with those of its parts; expired cells are filled by the rows, and each
@@ -96,7 +94,6 @@ pub fn take_joined(
 ) -> Result<ListOf<Taken>, Refusal>
     requires class { IsClass mapping.now class }
     requires targets { All (λ part. IsClass mapping.now part.target) parts.now }
-    requires configured { mapping.now.configured ≡ true }
     requires fit { IsFit mapping.now arena.old }
     requires rows { AllByRecursion (IsJoinedRow mapping.now class parts.now) rows.now }
     ensures step { Runs alone (λ taken. taken) (spec.take_joined mapping.now class parts.now rows.now)

@@ -10,8 +10,8 @@ use base_core::TableId;
 use expr_types::{Bulk, Select};
 use keeper_core::Keeper;
 use notations::{Page, number, parted};
-use plain_statements::{is_plain_bulk, is_plain_select, is_well_formed};
-use schema_core::{RowStmt, Schema};
+use plain_statements::{is_plain_bulk, is_plain_select};
+use schema_core::{RowStmt, Schema, is_well_formed};
 use std::alloc::Global;
 use std::mem::drop;
 

@@ -25,7 +25,7 @@ ghost use Rattle.row_statements.specs.Held.{rows_changed};
 ghost use Rattle.table_store.specs.Written.{given_up};
 ghost use Rattle.keeper_mem.specs.Kept.{Does, one_call_more, depth_by, call_ended, call_failed, is_failing, is_listed, new_keeper, sent_by, taken_by, untaken_by};
 
-use base_core::{KeyList, Refusal, RowList, TableId};
+use base_core::{KeyList, RowList, TableId};
 use expr_types::{Bulk, Select};
 use keeper_core::{KeeperStop, QueryRefusal, Sent, Target, WriteRefusal};
 use schema_core::{RowStmt, Schema};
@@ -85,9 +85,8 @@ impl Model for MemKeeper {
 
 impl MemKeeper {
     /// A keeper that was given no target, and fails the calls of these numbers. The only refusal is that memory ran out.
-    pub fn new(alloc: Global, failing: &[u64]) -> Result<MemKeeper, Refusal>
-        ensures ok { IfOk result (λ keeper. keeper ≡ new_keeper failing.now) }
-        ensures err { IfErr result (λ e. e ≡ refusals.Memory) }
+    pub fn new(alloc: Global, failing: &[u64]) -> Result<MemKeeper, AllocError>
+        ensures { IfOk result (λ keeper. keeper ≡ new_keeper failing.now) }
     {
         let failing = Vec::from_slice(alloc, failing)?;
         Ok(MemKeeper {

@@ -1,13 +1,11 @@
 //! What is done over a keeper in memory by those that do not own it.
 
-ghost use Rattle.std.specs.Prelude.{◌≡◌, ⊤, None, IfErr, IfOk};
-ghost use Rattle.base_core.specs.declared.refusal.Refusal.TheVariants.{Memory};
+ghost use Rattle.std.specs.Prelude.{◌≡◌, ⊤, None, OnErr, IfOk};
 ghost use Rattle.keeper_mem.specs.Kept.{moment_of};
 
 use crate::keeper::MemKeeper;
-use base_core::Refusal;
 use keeper_core::Keeper;
-use std::alloc::Global;
+use std::alloc::{AllocError, Global};
 
 /// What is done over a keeper that was given no target, whichever it is.
 pub trait OverKeepers {
@@ -34,15 +32,14 @@ pub trait OverMemory {
 /// Does it over a new keeper in memory that fails the calls of these numbers. Who does it does not own the keeper, and knows nothing of
 /// it but that it is one, so the drops of what it holds are proved here alone.
 ///
-/// # Errors
-/// `Memory`, and then nothing is done.
+/// Where memory runs out nothing is done.
 pub fn over_memory<P: OverKeepers>(
     alloc: Global,
     failing: &[u64],
     program: &mut P,
-) -> Result<(), Refusal>
+) -> Result<(), AllocError>
     ensures done { IfOk result (λ _. P.is_done program.new) }
-    ensures refused { IfErr result (λ e. (e ≡ Memory) × (program.new ≡ program.old)) }
+    ensures refused { OnErr result (program.new ≡ program.old) }
 {
     let mut keeper = Box::new(alloc, MemKeeper::new(alloc, failing)?)?;
     program.run(&mut *keeper);
@@ -51,15 +48,14 @@ pub fn over_memory<P: OverKeepers>(
 
 /// Does it over a new keeper in memory that fails the calls of these numbers, of which all is shown.
 ///
-/// # Errors
-/// `Memory`, and then nothing is done.
+/// Where memory runs out nothing is done.
 pub fn over_new<P: OverMemory>(
     alloc: Global,
     failing: &[u64],
     program: &mut P,
-) -> Result<(), Refusal>
+) -> Result<(), AllocError>
     ensures done { IfOk result (λ _. P.is_done program.new) }
-    ensures refused { IfErr result (λ e. (e ≡ Memory) × (program.new ≡ program.old)) }
+    ensures refused { OnErr result (program.new ≡ program.old) }
 {
     let mut keeper = Box::new(alloc, MemKeeper::new(alloc, failing)?)?;
     program.run(&mut *keeper);

@@ -1,18 +1,17 @@
 //! The keeper in memory, with the one over a file that takes its place.
 
-ghost use Rattle.std.specs.Prelude.{◌≡◌, ◌<◌, ◌≤◌, None, IfErr, IfOk, IfSome};
+ghost use Rattle.std.specs.Prelude.{◌≡◌, ◌<◌, ◌≤◌, None, IfOk, IfSome};
 ghost use Rattle.base_core.specs.declared.refusal.Refusal.TheVariants as refusals;
 ghost use Rattle.keeper_core.specs.Programs.{as_refusal};
 ghost use Rattle.keeper_core.specs.Calls.{stop_refusal};
 ghost use Rattle.keeper_core.specs.Keeping.{IsAttached};
 ghost use Rattle.keeper_shelf.specs.Shelved.{IsOverFile, moment_of, new_shelf};
 
-use base_core::Refusal;
 use keeper_core::{Keeper, KeeperStop, Target};
 use keeper_mem::MemKeeper;
 use keeper_sqlite::SqliteKeeper;
 use sqlite_database::Database;
-use std::alloc::Global;
+use std::alloc::{AllocError, Global};
 use std::marker::Model;
 
 /// A keeper of tables in memory, and over a file once it is given one. It fails no call of its own, and tells its tables unless it
@@ -71,9 +70,8 @@ fn over_file<D: Database + Drop>(
 
 impl<D: Database + Drop> Shelf<D> {
     /// A keeper that was given no target. The only refusal is that memory ran out.
-    pub fn new(rt: HostRuntime, alloc: Global) -> Result<Shelf<D>, Refusal>
-        ensures ok { IfOk result (λ shelf. shelf ≡ new_shelf) }
-        ensures err { IfErr result (λ e. e ≡ refusals.Memory) }
+    pub fn new(rt: HostRuntime, alloc: Global) -> Result<Shelf<D>, AllocError>
+        ensures { IfOk result (λ shelf. shelf ≡ new_shelf) }
     {
         let memory = MemKeeper::new(alloc, &[])?;
         Ok(Shelf {

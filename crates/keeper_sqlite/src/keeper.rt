@@ -10,7 +10,7 @@ ghost use Rattle.keeper_core.specs.declared.sent.Sent.TheVariants as sent;
 ghost use Rattle.keeper_core.specs.Programs.{as_refusal};
 ghost use Rattle.keeper_core.specs.Calls.{query_refusal, refusal_by, write_refusal};
 ghost use Rattle.keeper_core.specs.Keeping.{RefusesBulk, RefusesRow, RefusesSelect};
-ghost use Rattle.sqlite_selects.specs.ItemShapes.{AreAnswers};
+ghost use Rattle.expr_typing.specs.ItemShapes.{AreAnswers};
 ghost use Rattle.sqlite_statements.specs.Endings.{IfRefused, MayRefuseBulk, MayRefuseSelect};
 ghost use Rattle.keeper_sqlite.specs.Counted.{Ends, Settles, Stops, new_keeper, refused_by, target_given};
 

@@ -1,6 +1,6 @@
 //! Acts that load.
 
-ghost use Rattle.std.specs.Prelude.{◌≡◌, true};
+ghost use Rattle.std.specs.Prelude.{◌≡◌};
 ghost use Rattle.object_arena.specs.declared.object.State.TheVariants.{Persistent};
 ghost use Rattle.object_arena.specs.Fit.{IsFit};
 ghost use Rattle.object_arena.specs.Graph.{IsObject, object_at};
@@ -29,12 +29,11 @@ fn load_link<K: Keeper>(
     keeper: &mut K,
     notes: &mut Notes,
 ) -> Result<(), Refusal>
-    requires configured { mapping.now.configured ≡ true }
     requires fit { IsFit mapping.now arena.old }
     requires object { IsObject arena.old object }
     requires persistent { (object_at arena.old object).state ≡ Persistent }
-    requires ready { IsReady mapping.now.schema (K.moment keeper.old) }
-    ensures stays { StaysReady mapping.now.schema result (K.moment keeper.new) }
+    requires ready { IsReady (K.moment keeper.old) }
+    ensures stays { StaysReady (K.moment keeper.old) result (K.moment keeper.new) }
     ensures fits { IsFit mapping.now arena.new }
 {
     let relations = mapping.relations(arena.object(object).class);
@@ -53,10 +52,9 @@ fn load_together<K: Keeper>(
     words: &str,
     notes: &mut Notes,
 ) -> Result<(), Refusal>
-    requires configured { mapping.now.configured ≡ true }
     requires fit { IsFit mapping.now arena.old }
-    requires ready { IsReady mapping.now.schema (K.moment keeper.old) }
-    ensures stays { StaysReady mapping.now.schema result (K.moment keeper.new) }
+    requires ready { IsReady (K.moment keeper.old) }
+    ensures stays { StaysReady (K.moment keeper.old) result (K.moment keeper.new) }
     ensures fits { IsFit mapping.now arena.new }
 {
     let (class, words) = parted(words, ' ');
@@ -84,10 +82,9 @@ fn load_links<K: Keeper>(
     words: &str,
     notes: &mut Notes,
 ) -> Result<(), Refusal>
-    requires configured { mapping.now.configured ≡ true }
     requires fit { IsFit mapping.now arena.old }
-    requires ready { IsReady mapping.now.schema (K.moment keeper.old) }
-    ensures stays { StaysReady mapping.now.schema result (K.moment keeper.new) }
+    requires ready { IsReady (K.moment keeper.old) }
+    ensures stays { StaysReady (K.moment keeper.old) result (K.moment keeper.new) }
     ensures fits { IsFit mapping.now arena.new }
 {
     if letter == "b" {
@@ -114,10 +111,9 @@ pub fn load<K: Keeper>(
     act: &str,
     notes: &mut Notes,
 ) -> Result<ObjList, Refusal>
-    requires configured { mapping.now.configured ≡ true }
     requires fit { IsFit mapping.now arena.old }
-    requires ready { IsReady mapping.now.schema (K.moment keeper.old) }
-    ensures stays { StaysReady mapping.now.schema result (K.moment keeper.new) }
+    requires ready { IsReady (K.moment keeper.old) }
+    ensures stays { StaysReady (K.moment keeper.old) result (K.moment keeper.new) }
     ensures fits { IsFit mapping.now arena.new }
 {
     let (letter, words) = parted(act, ' ');

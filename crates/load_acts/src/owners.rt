@@ -63,7 +63,7 @@ fn push_place(places: &mut ListOf<RelNo>, word: &str, count: usize) -> Result<()
     if place as usize >= count {
         return Err(Refusal::NotBuilt);
     }
-    places.push(RelNo(place))
+    Ok(places.push(RelNo(place))?)
 }
 
 /// Places below so many, with commas between them; there may be none.

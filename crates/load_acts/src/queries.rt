@@ -1,6 +1,5 @@
 //! Queries for all objects of a class.
 
-ghost use Rattle.std.specs.Prelude.{◌≡◌, true};
 ghost use Rattle.std.specs.List.{All};
 ghost use Rattle.class_mapping.specs.Mapped.{IsClass};
 ghost use Rattle.object_arena.specs.Fit.{IsFit};
@@ -27,13 +26,12 @@ fn load_query<K: Keeper>(
     query: &ObjectQuery,
     notes: &mut Notes,
 ) -> Result<ObjList, Refusal>
-    requires configured { mapping.now.configured ≡ true }
     requires fit { IsFit mapping.now arena.old }
     requires class { IsClass mapping.now query.now.class }
     requires joined { All (IsOption mapping.now query.now.class) query.now.joined }
     requires reads { ReadsObjects mapping.now query.now.class query.now.select }
-    requires ready { IsReady mapping.now.schema (K.moment keeper.old) }
-    ensures stays { StaysReady mapping.now.schema result (K.moment keeper.new) }
+    requires ready { IsReady (K.moment keeper.old) }
+    ensures stays { StaysReady (K.moment keeper.old) result (K.moment keeper.new) }
     ensures fits { IsFit mapping.now arena.new }
 {
     if !has_plain_select(alloc, mapping, query)? {
@@ -52,12 +50,11 @@ fn load_with_joined<K: Keeper>(
     places: ListOf<RelNo>,
     notes: &mut Notes,
 ) -> Result<ObjList, Refusal>
-    requires configured { mapping.now.configured ≡ true }
     requires fit { IsFit mapping.now arena.old }
     requires class { IsClass mapping.now class }
     requires places { All (IsOption mapping.now class) places }
-    requires ready { IsReady mapping.now.schema (K.moment keeper.old) }
-    ensures stays { StaysReady mapping.now.schema result (K.moment keeper.new) }
+    requires ready { IsReady (K.moment keeper.old) }
+    ensures stays { StaysReady (K.moment keeper.old) result (K.moment keeper.new) }
     ensures fits { IsFit mapping.now arena.new }
 {
     let query = every_object(alloc, mapping, class, places, ListOf::new(alloc))?;
@@ -76,12 +73,11 @@ fn load_with_further<K: Keeper>(
     places: ListOf<RelNo>,
     notes: &mut Notes,
 ) -> Result<ObjList, Refusal>
-    requires configured { mapping.now.configured ≡ true }
     requires fit { IsFit mapping.now arena.old }
     requires class { IsClass mapping.now class }
     requires places { All (IsOption mapping.now class) places }
-    requires ready { IsReady mapping.now.schema (K.moment keeper.old) }
-    ensures stays { StaysReady mapping.now.schema result (K.moment keeper.new) }
+    requires ready { IsReady (K.moment keeper.old) }
+    ensures stays { StaysReady (K.moment keeper.old) result (K.moment keeper.new) }
     ensures fits { IsFit mapping.now arena.new }
 {
     let query = every_object(alloc, mapping, class, ListOf::new(alloc), places)?;
@@ -100,10 +96,9 @@ pub(crate) fn load_class<K: Keeper>(
     words: &str,
     notes: &mut Notes,
 ) -> Result<ObjList, Refusal>
-    requires configured { mapping.now.configured ≡ true }
     requires fit { IsFit mapping.now arena.old }
-    requires ready { IsReady mapping.now.schema (K.moment keeper.old) }
-    ensures stays { StaysReady mapping.now.schema result (K.moment keeper.new) }
+    requires ready { IsReady (K.moment keeper.old) }
+    ensures stays { StaysReady (K.moment keeper.old) result (K.moment keeper.new) }
     ensures fits { IsFit mapping.now arena.new }
 {
     let (class, places) = parted(words, ' ');

@@ -46,7 +46,7 @@ keys_all mapped relation [] h = tt
 keys_all mapped relation (owner ∷ owners) h = (h.0, keys_all mapped relation owners h.1)
 
 -- it is plain
-pub batch_plain : (mapped : Mapped) (relation : Relation) (owners : List Owner) (r : Result Select Refusal) → HasHierarchies mapped → IsRelated mapped relation → relation.many ≡ true → 0 < length owners
+pub batch_plain : {E : Type 0} (mapped : Mapped) (relation : Relation) (owners : List Owner) (r : Result Select E) → HasHierarchies mapped → IsRelated mapped relation → relation.many ≡ true → 0 < length owners
     → All (IsKeyed mapped relation) owners → IfOk r (λ s. s ≡ batch_select mapped relation (keys_of owners)) → IfOk r (IsPlainSelect mapped.schema)
 batch_plain mapped relation owners (Ok s) has related many some keyed is =
     let long : length (keys_of owners) ≡ length owners = length-map owners (λ (owner : Owner). owner.key) in
@@ -56,7 +56,7 @@ batch_plain mapped relation owners (Ok s) has related many some keyed is =
     (All-from_recursion every (keys_of owners) (keys_all mapped relation owners (recursion_from_All (IsKeyed mapped relation) owners keyed))))
 batch_plain mapped relation owners (Err e) has related many some keyed is = tt
 
-pub named_select : (mapped : Mapped) (relation : Relation) (owners : List Owner) (keys shown : Rows) (r : Result Select Refusal) → keys ≡ keys_of owners → shown ≡ keys → IfOk r (λ s. s ≡ batch_select mapped relation shown)
+pub named_select : {E : Type 0} (mapped : Mapped) (relation : Relation) (owners : List Owner) (keys shown : Rows) (r : Result Select E) → keys ≡ keys_of owners → shown ≡ keys → IfOk r (λ s. s ≡ batch_select mapped relation shown)
     → IfOk r (λ s. s ≡ batch_select mapped relation (keys_of owners))
 named_select mapped relation owners keys shown (Ok s) named seen is = is ∙ ap (batch_select mapped relation) (seen ∙ named)
 named_select mapped relation owners keys shown (Err e) named seen is = tt

@@ -83,11 +83,11 @@ pub under_all : (P : ObjId → Type 0) (members : List Member) (key : List Value
 under_all P members key h = All-from_recursion P (members_under members key) (under_every P members key (recursion_from_All P (objects_in members) h))
 
 -- the collection of an owner was filled
-pub owner_filled : (place : RelNo) (members : List Member) (owner : Owner) (read : List ObjId) (own now : Loading) (r : Result (Unit {0}) Refusal) → read ≡ members_under members owner.key
-    → OnOk r (now ≡ collection_filled owner.object place read own) → IfErr r (λ e. e ≡ Memory) → Runs alone (λ (u : Unit {0}). u) (fill_owner place members owner tt) own r now
-owner_filled place members owner read own now (Ok u) mine is cause =
+pub owner_filled : {E : Type 0} (place : RelNo) (members : List Member) (owner : Owner) (read : List ObjId) (own now : Loading) (r : Result (Unit {0}) E) → read ≡ members_under members owner.key
+    → OnOk r (now ≡ collection_filled owner.object place read own) → OnOk r (Runs alone (λ (u : Unit {0}). u) (fill_owner place members owner tt) own (Ok tt) now)
+owner_filled place members owner read own now (Ok u) mine is =
     change_ok (collection_filled owner.object place (members_under members owner.key)) (is ∙ ap (λ (objects : List ObjId). collection_filled owner.object place objects own) mine)
-owner_filled place members owner read own now (Err e) mine is cause = lost_alone cause
+owner_filled place members owner read own now (Err e) mine is = tt
 
 -- the loop over owners begins
 pub owners_start : (place : RelNo) (owners : List Owner) (members : List Member) (own : Loading) → Reaches alone (fill_owners place owners members) own (each (fill_owner place members) tt owners) own

@@ -8,7 +8,6 @@ use Rattle.base_core.specs.declared.ids.ClassId.{ClassId}
 use Rattle.base_core.specs.declared.ids.ObjId.{ObjId}
 use Rattle.base_core.specs.declared.ids.RelNo.{RelNo}
 use Rattle.base_core.specs.declared.value.Value.{Value}
-use Rattle.base_core.specs.declared.refusal.Refusal.{Refusal}
 use Rattle.schema_core.specs.WellFormed.{is_key}
 use Rattle.class_types.specs.declared.mapped.Relation.{Relation}
 use Rattle.class_mapping.specs.Mapped.{IsClass, Mapped, relations_of, root_spec}
@@ -50,14 +49,14 @@ pub owner_is : (graph : Graph) (object : ObjId) (key : List Value) → key ≡ i
 owner_is graph object key is = ap (λ (k : List Value). let found : Owner = record { object = object; key = k } in found) is
 
 -- one owner more
-pub owner_pushed : (graph : Graph) (place : RelNo) (object : ObjId) (found : Owner) (owners new : List Owner) (b : Bool) (r : Result (Unit {0}) Refusal) → b ≡ is_unloaded (link_at graph object place) → b ≡ true → found ≡ with_key graph object
+pub owner_pushed : {E : Type 0} (graph : Graph) (place : RelNo) (object : ObjId) (found : Owner) (owners new : List Owner) (b : Bool) (r : Result (Unit {0}) E) → b ≡ is_unloaded (link_at graph object place) → b ≡ true → found ≡ with_key graph object
     → OnOk r (new ≡ owners ++ found ∷ []) → OnOk r (new ≡ owners ++ unloaded_owner graph place object)
 owner_pushed graph place object found owners new b (Ok u) asked so is pushed =
     pushed ∙ ap (λ (one : Owner). owners ++ one ∷ []) is
     ∙ ap (λ (c : Bool). owners ++ (if c then with_key graph object ∷ [] else [])) (sym (sym asked ∙ so))
 owner_pushed graph place object found owners new b (Err e) asked so is pushed = tt
 
-pub owned_more : {A : Type 0} (P : A → Type 0) (found : A) (owners new : List A) (r : Result (Unit {0}) Refusal) → P found → OnOk r (new ≡ owners ++ found ∷ []) → All P owners → OnOk r (All P new)
+pub owned_more : {A E : Type 0} (P : A → Type 0) (found : A) (owners new : List A) (r : Result (Unit {0}) E) → P found → OnOk r (new ≡ owners ++ found ∷ []) → All P owners → OnOk r (All P new)
 owned_more P found owners new (Ok u) one pushed all =
     subst (All P) (sym pushed) (All-from_recursion P (owners ++ found ∷ []) (every_append P owners (found ∷ []) (recursion_from_All P owners all) (one, tt)))
 owned_more P found owners new (Err e) one pushed all = tt

@@ -2,7 +2,6 @@
 
 ghost use Rattle.std.specs.Prelude.{◌≡◌, ◌<◌, true, length, IfErr, IfOk};
 ghost use Rattle.std.specs.List.{All, AllByRecursion};
-ghost use Rattle.base_core.specs.declared.refusal.Refusal.TheVariants.{Memory};
 ghost use Rattle.class_mapping.specs.Related.{IsRelated};
 ghost use Rattle.object_arena.specs.Fit.{IsFit};
 ghost use Rattle.object_arena.specs.Graph.{Graph};
@@ -28,10 +27,9 @@ use collection_selects::batch_select;
 use expr_types::Select;
 use keeper_core::{Keeper, Notes};
 use load_calls::read;
-use mapping_laws::has_hierarchies;
 use object_arena::Arena;
 use object_parts::batch_starts;
-use std::alloc::Global;
+use std::alloc::{AllocError, Global};
 use std::mem::drop;
 
 /// The select of the members of owners.
@@ -40,8 +38,7 @@ fn select_of_batch(
     mapping: &Mapping,
     relation: &Relation,
     owners: &[Owner],
-) -> Result<Select, Refusal>
-    requires configured { mapping.now.configured ≡ true }
+) -> Result<Select, AllocError>
     requires related { IsRelated mapping.now relation.now }
     requires many { relation.now.many ≡ true }
     requires some { 0 < length owners.now }
@@ -50,9 +47,8 @@ fn select_of_batch(
         (λ s. s ≡ batch_select mapping.now relation.now (spec.keys_of owners.now)) }
     ensures plain { IfOk result (IsPlainSelect mapping.now.schema) }
     ensures hierarchies { IfOk result (λ _. HasHierarchies mapping.now) }
-    ensures cause { IfErr result (λ e. e ≡ Memory) }
 {
-    let _ = has_hierarchies(mapping);
+    let _ = mapping.schema();
     let keys = keys_of(alloc, owners)?;
     batch_select(alloc, mapping, relation, keys.as_slice())
 }
@@ -66,16 +62,15 @@ fn read_batch<K: Keeper>(
     owners: &[Owner],
     notes: &mut Notes,
 ) -> Result<RowList, Refusal>
-    requires configured { mapping.now.configured ≡ true }
     requires related { IsRelated mapping.now relation.now }
     requires many { relation.now.many ≡ true }
     requires some { 0 < length owners.now }
     requires keyed { All (spec.IsKeyed mapping.now relation.now) owners.now }
-    requires ready { IsReady mapping.now.schema (K.moment keeper.old) }
+    requires ready { IsReady (K.moment keeper.old) }
     ensures step { (graph : Graph) → Runs (moment_beside K.moment) (λ rows. rows)
         (spec.read_batch mapping.now relation.now owners.now)
         (loading graph notes.old, keeper.old) result (loading graph notes.new, keeper.new) }
-    ensures stays { StaysReady mapping.now.schema result (K.moment keeper.new) }
+    ensures stays { StaysReady (K.moment keeper.old) result (K.moment keeper.new) }
     ensures rows { IfOk result (AllByRecursion (IsMemberRow mapping.now relation.now)) }
     ensures refuses { IfErr result (CanRefuseRows mapping.now) }
 {
@@ -96,17 +91,16 @@ fn load_batch<K: Keeper>(
     owners: &[Owner],
     notes: &mut Notes,
 ) -> Result<(), Refusal>
-    requires configured { mapping.now.configured ≡ true }
     requires fit { IsFit mapping.now arena.old }
     requires related { IsRelated mapping.now relation.now }
     requires many { relation.now.many ≡ true }
     requires owned { All (spec.IsOwned mapping.now arena.old relation.now place) owners.now }
-    requires ready { IsReady mapping.now.schema (K.moment keeper.old) }
+    requires ready { IsReady (K.moment keeper.old) }
     ensures step { Runs (moment_beside K.moment) (λ u. u)
         (spec.load_batch mapping.now relation.now place owners.now)
         (loading arena.old notes.old, keeper.old) result
         (loading arena.new notes.new, keeper.new) }
-    ensures stays { StaysReady mapping.now.schema result (K.moment keeper.new) }
+    ensures stays { StaysReady (K.moment keeper.old) result (K.moment keeper.new) }
     ensures grows { Grows arena.old arena.new }
     ensures fits { IsFit mapping.now arena.new }
     ensures refuses { IfErr result (CanRefuseRows mapping.now) }
@@ -116,7 +110,7 @@ fn load_batch<K: Keeper>(
     }
     let rows = read_batch(alloc, mapping, keeper, relation, owners, notes)?;
     let members = take_members(alloc, arena, mapping, relation, rows.as_slice(), notes)?;
-    fill_owners(
+    Ok(fill_owners(
         alloc,
         arena,
         mapping,
@@ -125,7 +119,7 @@ fn load_batch<K: Keeper>(
         owners,
         members.as_slice(),
         notes,
-    )
+    )?)
 }
 
 /// The collections of the owners of the batches that begin at these places are read, by one select for each.
@@ -141,17 +135,16 @@ fn load_each<K: Keeper>(
     starts: &[usize],
     notes: &mut Notes,
 ) -> Result<(), Refusal>
-    requires configured { mapping.now.configured ≡ true }
     requires fit { IsFit mapping.now arena.old }
     requires related { IsRelated mapping.now relation.now }
     requires many { relation.now.many ≡ true }
     requires owned { All (spec.IsOwned mapping.now arena.old relation.now place) owners.now }
-    requires ready { IsReady mapping.now.schema (K.moment keeper.old) }
+    requires ready { IsReady (K.moment keeper.old) }
     ensures step { Runs (moment_beside K.moment) (λ u. u)
         (spec.load_each mapping.now relation.now place owners.now starts.now)
         (loading arena.old notes.old, keeper.old) result
         (loading arena.new notes.new, keeper.new) }
-    ensures stays { StaysReady mapping.now.schema result (K.moment keeper.new) }
+    ensures stays { StaysReady (K.moment keeper.old) result (K.moment keeper.new) }
     ensures grows { Grows arena.old arena.new }
     ensures fits { IsFit mapping.now arena.new }
     ensures refuses { IfErr result (CanRefuseRows mapping.now) }
@@ -174,17 +167,16 @@ fn load_batches<K: Keeper>(
     owners: &[Owner],
     notes: &mut Notes,
 ) -> Result<(), Refusal>
-    requires configured { mapping.now.configured ≡ true }
     requires fit { IsFit mapping.now arena.old }
     requires related { IsRelated mapping.now relation.now }
     requires many { relation.now.many ≡ true }
     requires owned { All (spec.IsOwned mapping.now arena.old relation.now place) owners.now }
-    requires ready { IsReady mapping.now.schema (K.moment keeper.old) }
+    requires ready { IsReady (K.moment keeper.old) }
     ensures step { Runs (moment_beside K.moment) (λ u. u)
         (spec.load_batches mapping.now relation.now place owners.now)
         (loading arena.old notes.old, keeper.old) result
         (loading arena.new notes.new, keeper.new) }
-    ensures stays { StaysReady mapping.now.schema result (K.moment keeper.new) }
+    ensures stays { StaysReady (K.moment keeper.old) result (K.moment keeper.new) }
     ensures grows { Grows arena.old arena.new }
     ensures fits { IsFit mapping.now arena.new }
     ensures refuses { IfErr result (CanRefuseRows mapping.now) }
@@ -222,17 +214,16 @@ pub fn load_members<K: Keeper>(
     owners: &[ObjId],
     notes: &mut Notes,
 ) -> Result<(), Refusal>
-    requires configured { mapping.now.configured ≡ true }
     requires fit { IsFit mapping.now arena.old }
     requires related { IsRelated mapping.now relation.now }
     requires many { relation.now.many ≡ true }
     requires owners { All (spec.IsOwner mapping.now arena.old relation.now place) owners.now }
-    requires ready { IsReady mapping.now.schema (K.moment keeper.old) }
+    requires ready { IsReady (K.moment keeper.old) }
     ensures step { Runs (moment_beside K.moment) (λ u. u)
         (spec.load_members mapping.now relation.now place owners.now)
         (loading arena.old notes.old, keeper.old) result
         (loading arena.new notes.new, keeper.new) }
-    ensures stays { StaysReady mapping.now.schema result (K.moment keeper.new) }
+    ensures stays { StaysReady (K.moment keeper.old) result (K.moment keeper.new) }
     ensures grows { Grows arena.old arena.new }
     ensures fits { IsFit mapping.now arena.new }
     ensures refuses { IfErr result (CanRefuseRows mapping.now) }

@@ -1,14 +1,13 @@
 //! Members by the keys of their owners.
 
-ghost use Rattle.std.specs.Prelude.{◌≡◌, [], ◌∷◌, ◌++◌, List, IfErr, IfOk, OnOk};
+ghost use Rattle.std.specs.Prelude.{◌≡◌, [], ◌∷◌, ◌++◌, List, IfOk, OnOk};
 ghost use Rattle.std.specs.Option.{unwrap_or};
 ghost use Rattle.base_core.specs.declared.value.Value.{Value};
-ghost use Rattle.base_core.specs.declared.refusal.Refusal.TheVariants.{Memory};
 ghost use Rattle.load_batches.specs.Batches as spec;
 
 use crate::members::Member;
-use base_core::{Copied, Key, ListOf, ObjId, ObjList, Refusal};
-use std::alloc::Global;
+use base_core::{Copied, Key, ListOf, ObjId, ObjList};
+use std::alloc::{AllocError, Global};
 use std::collections::BTreeMap;
 
 /// The members of each owner's key.
@@ -24,10 +23,9 @@ fn objects_of(alloc: Global, found: Option<ObjList>) -> ObjList
 }
 
 /// A member goes behind those of its owner's key.
-fn add_member(alloc: Global, groups: &mut Groups, member: &Member) -> Result<(), Refusal>
-    ensures members { OnOk result ((key : List Value) → spec.objects_at groups.new key
+fn add_member(alloc: Global, groups: &mut Groups, member: &Member) -> Result<(), AllocError>
+    ensures { OnOk result ((key : List Value) → spec.objects_at groups.new key
         ≡ spec.objects_at groups.old key ++ spec.members_under (member.now ∷ []) key) }
-    ensures cause { IfErr result (λ e. e ≡ Memory) }
 {
     let mut objects = objects_of(alloc, groups.remove(&member.owner));
     objects.push(member.object)?;
@@ -37,9 +35,8 @@ fn add_member(alloc: Global, groups: &mut Groups, member: &Member) -> Result<(),
 
 /// Members by the keys of their owners, in the order in which they come. An ordered map has them, so that the time grows little
 /// faster than their number.
-pub(crate) fn groups_of(alloc: Global, members: &[Member]) -> Result<Groups, Refusal>
-    ensures groups { IfOk result (spec.AreGroups members.now) }
-    ensures cause { IfErr result (λ e. e ≡ Memory) }
+pub(crate) fn groups_of(alloc: Global, members: &[Member]) -> Result<Groups, AllocError>
+    ensures { IfOk result (spec.AreGroups members.now) }
 {
     let mut groups = BTreeMap::new(alloc);
     for member in members {

@@ -2,7 +2,6 @@
 
 ghost use Rattle.std.specs.Prelude.{◌≡◌, true, map, IfErr, IfOk, OnOk};
 ghost use Rattle.std.specs.List.{All, AllByRecursion};
-ghost use Rattle.base_core.specs.declared.refusal.Refusal.TheVariants.{Memory};
 ghost use Rattle.class_mapping.specs.Mapped.{IsClass, root_of};
 ghost use Rattle.object_arena.specs.Fit.{IsFit, is_of_root};
 ghost use Rattle.keeper_core.specs.Alone.{alone};
@@ -23,7 +22,7 @@ use load_columns::foreign_numbers;
 use load_rows::take_row;
 use load_targets::foreign_attrs;
 use object_arena::Arena;
-use std::alloc::Global;
+use std::alloc::{AllocError, Global};
 
 /// An object that a row gave, and the key of its owner.
 #[derive(Drop)]
@@ -33,9 +32,8 @@ pub struct Member {
 }
 
 /// What a row has at the place of an attribute; where there is nothing, NULL.
-fn value_in(row: &[Value], attr: AttrNo) -> Result<Value, Refusal>
-    ensures value { IfOk result (λ value. value ≡ value_in row.now attr) }
-    ensures cause { IfErr result (λ e. e ≡ Memory) }
+fn value_in(row: &[Value], attr: AttrNo) -> Result<Value, AllocError>
+    ensures { IfOk result (λ value. value ≡ value_in row.now attr) }
 {
     match row.get(attr.0 as usize) {
         Some(value) => Ok(value.copied()?),
@@ -44,9 +42,8 @@ fn value_in(row: &[Value], attr: AttrNo) -> Result<Value, Refusal>
 }
 
 /// What a row has for attributes.
-fn values_in(alloc: Global, attrs: &[AttrNo], row: &[Value]) -> Result<Key, Refusal>
-    ensures values { IfOk result (λ values. values ≡ map (value_in row.now) attrs.now) }
-    ensures cause { IfErr result (λ e. e ≡ Memory) }
+fn values_in(alloc: Global, attrs: &[AttrNo], row: &[Value]) -> Result<Key, AllocError>
+    ensures { IfOk result (λ values. values ≡ map (value_in row.now) attrs.now) }
 {
     let mut values = ListOf::new(alloc);
     for attr in attrs {
@@ -56,9 +53,8 @@ fn values_in(alloc: Global, attrs: &[AttrNo], row: &[Value]) -> Result<Key, Refu
 }
 
 /// How many values of a member's row stand before those of the target.
-fn owner_width(alloc: Global, mapping: &Mapping, relation: &Relation) -> Result<u32, Refusal>
-    ensures width { IfOk result (λ width. width ≡ member_rows.owner_width mapping.now relation.now) }
-    ensures cause { IfErr result (λ e. e ≡ Memory) }
+fn owner_width(alloc: Global, mapping: &Mapping, relation: &Relation) -> Result<u32, AllocError>
+    ensures { IfOk result (λ width. width ≡ member_rows.owner_width mapping.now relation.now) }
 {
     match relation.far {
         Some(_far) => number_of(foreign_numbers(alloc, mapping, relation.foreign)?.len()),
@@ -68,9 +64,8 @@ fn owner_width(alloc: Global, mapping: &Mapping, relation: &Relation) -> Result<
 
 /// The first places of a row.
 #[tactic(auto, using(load_selects::proofs::Steps::number_steps))]
-fn first_places(alloc: Global, count: u32) -> Result<ListOf<AttrNo>, Refusal>
-    ensures places { IfOk result (λ places. places ≡ spec.first_places count) }
-    ensures cause { IfErr result (λ e. e ≡ Memory) }
+fn first_places(alloc: Global, count: u32) -> Result<ListOf<AttrNo>, AllocError>
+    ensures { IfOk result (λ places. places ≡ spec.first_places count) }
 {
     let mut places = ListOf::new(alloc);
     for number in 0..count {
@@ -85,13 +80,11 @@ fn owner_places(
     mapping: &Mapping,
     relation: &Relation,
     width: u32,
-) -> Result<ListOf<AttrNo>, Refusal>
+) -> Result<ListOf<AttrNo>, AllocError>
     requires target { IsClass mapping.now relation.now.target }
-    requires configured { mapping.now.configured ≡ true }
     requires width { width ≡ member_rows.owner_width mapping.now relation.now }
-    ensures places { IfOk result
+    ensures { IfOk result
         (λ places. places ≡ spec.owner_places mapping.now relation.now) }
-    ensures cause { IfErr result (λ e. e ≡ Memory) }
 {
     match relation.far {
         Some(_far) => first_places(alloc, width),
@@ -112,7 +105,6 @@ fn take_member(
     notes: &mut Notes,
 ) -> Result<(), Refusal>
     requires target { IsClass mapping.now relation.now.target }
-    requires configured { mapping.now.configured ≡ true }
     requires fit { IsFit mapping.now arena.old }
     requires row { member_rows.IsMemberRow mapping.now relation.now row.now }
     requires places { places.now ≡ spec.owner_places mapping.now relation.now }
@@ -131,7 +123,7 @@ fn take_member(
     let owner = values_in(alloc, places, row)?;
     let values = rest_from(row, width as usize);
     let object = take_row(alloc, arena, mapping, relation.target, values, notes)?;
-    members.push(Member { owner, object })
+    Ok(members.push(Member { owner, object })?)
 }
 
 /// The objects of the rows of a relationship's members, in order and each filled by its row, with the keys of their owners.
@@ -148,7 +140,6 @@ pub(crate) fn take_members(
     notes: &mut Notes,
 ) -> Result<ListOf<Member>, Refusal>
     requires target { IsClass mapping.now relation.now.target }
-    requires configured { mapping.now.configured ≡ true }
     requires fit { IsFit mapping.now arena.old }
     requires rows { AllByRecursion (member_rows.IsMemberRow mapping.now relation.now) rows.now }
     ensures step { Runs alone (λ members. members)

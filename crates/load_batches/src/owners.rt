@@ -1,20 +1,18 @@
 //! Owners with the keys of their rows.
 
-ghost use Rattle.std.specs.Prelude.{◌≡◌, ◌++◌, ◌<◌, true, length, IfErr, IfOk, OnOk};
+ghost use Rattle.std.specs.Prelude.{◌≡◌, ◌++◌, ◌<◌, length, IfOk, OnOk};
 ghost use Rattle.std.specs.List.{All};
-ghost use Rattle.base_core.specs.declared.refusal.Refusal.TheVariants.{Memory};
 ghost use Rattle.class_mapping.specs.Mapped.{relations_of};
 ghost use Rattle.object_arena.specs.Fit.{IsFit};
 ghost use Rattle.object_arena.specs.Graph.{IsObject, object_at};
 ghost use Rattle.load_rows.specs.Links.{link_at};
 ghost use Rattle.load_batches.specs.Batches as spec;
 
-use base_core::{Copied, Key, KeyList, ListOf, ObjId, Refusal, RelNo};
+use base_core::{Copied, Key, KeyList, ListOf, ObjId, RelNo};
 use class_mapping::{Mapping, Relation};
 use load_rows::identity_key;
-use mapping_laws::has_hierarchies;
 use object_arena::Arena;
-use std::alloc::Global;
+use std::alloc::{AllocError, Global};
 
 /// An owner of a collection, and the key of its row.
 #[derive(Drop)]
@@ -30,7 +28,7 @@ pub fn is_unloaded(arena: &Arena, mapping: &Mapping, object: ObjId, place: RelNo
     requires place { place.0 < length (relations_of mapping.now (object_at arena.now object).class) }
     ensures { result ≡ spec.is_unloaded (link_at arena.now object place) }
 {
-    let _ = mapping.is_configured();
+    let _ = mapping.schema();
     object_parts::is_unloaded(arena.object(object).links.at(place.0 as usize))
 }
 
@@ -42,15 +40,14 @@ fn with_key(
     relation: &Relation,
     place: RelNo,
     owner: ObjId,
-) -> Result<Owner, Refusal>
-    requires configured { mapping.now.configured ≡ true }
+) -> Result<Owner, AllocError>
     requires fit { IsFit mapping.now arena.now }
     requires owner { spec.IsOwner mapping.now arena.now relation.now place owner }
     ensures owner { IfOk result (λ o. o ≡ spec.with_key arena.now owner) }
     ensures owned { IfOk result (spec.IsOwned mapping.now arena.now relation.now place) }
-    ensures cause { IfErr result (λ e. e ≡ Memory) }
 {
-    let _ = (has_hierarchies(mapping), mapping.is_configured(), place);
+    let _ = mapping.schema();
+    let _ = place;
     let _ = arena.object(owner);
     let _ = relation;
     let key = identity_key(alloc, arena, owner)?;
@@ -66,15 +63,13 @@ fn push_unloaded(
     relation: &Relation,
     place: RelNo,
     owner: ObjId,
-) -> Result<(), Refusal>
-    requires configured { mapping.now.configured ≡ true }
+) -> Result<(), AllocError>
     requires fit { IsFit mapping.now arena.now }
     requires owner { spec.IsOwner mapping.now arena.now relation.now place owner }
     ensures owners { OnOk result
         (out.new ≡ out.old ++ spec.unloaded_owner arena.now place owner) }
     ensures owned { All (spec.IsOwned mapping.now arena.now relation.now place) out.old
         → OnOk result (All (spec.IsOwned mapping.now arena.now relation.now place) out.new) }
-    ensures cause { IfErr result (λ e. e ≡ Memory) }
 {
     if !is_unloaded(arena, mapping, owner, place) {
         return Ok(());
@@ -91,15 +86,13 @@ pub(crate) fn unloaded_owners(
     relation: &Relation,
     place: RelNo,
     owners: &[ObjId],
-) -> Result<ListOf<Owner>, Refusal>
-    requires configured { mapping.now.configured ≡ true }
+) -> Result<ListOf<Owner>, AllocError>
     requires fit { IsFit mapping.now arena.now }
     requires owners { All (spec.IsOwner mapping.now arena.now relation.now place) owners.now }
     ensures owners { IfOk result
         (λ found. found ≡ spec.unloaded_owners arena.now place owners.now) }
     ensures owned { IfOk result
         (All (spec.IsOwned mapping.now arena.now relation.now place)) }
-    ensures cause { IfErr result (λ e. e ≡ Memory) }
 {
     let mut found = ListOf::new(alloc);
     for owner in owners {
@@ -109,9 +102,8 @@ pub(crate) fn unloaded_owners(
 }
 
 /// The keys of owners.
-pub(crate) fn keys_of(alloc: Global, owners: &[Owner]) -> Result<KeyList, Refusal>
-    ensures keys { IfOk result (λ keys. keys ≡ spec.keys_of owners.now) }
-    ensures cause { IfErr result (λ e. e ≡ Memory) }
+pub(crate) fn keys_of(alloc: Global, owners: &[Owner]) -> Result<KeyList, AllocError>
+    ensures { IfOk result (λ keys. keys ≡ spec.keys_of owners.now) }
 {
     let mut keys = ListOf::new(alloc);
     for owner in owners {

@@ -80,13 +80,13 @@ owner_key mapped class place key has less within related fits =
 
 -- ---- the select of its members
 
-pub select_is : (mapped : Mapped) (graph : Graph) (owner : ObjId) (relation : Relation) (key : List Value) (r : Result Select Refusal) → key ≡ identity_key graph owner
+pub select_is : {E : Type 0} (mapped : Mapped) (graph : Graph) (owner : ObjId) (relation : Relation) (key : List Value) (r : Result Select E) → key ≡ identity_key graph owner
     → IfOk r (λ s. s ≡ members_select mapped relation key) → IfOk r (λ s. s ≡ members_select mapped relation (identity_key graph owner))
 select_is mapped graph owner relation key (Ok s) named made = made ∙ ap (members_select mapped relation) named
 select_is mapped graph owner relation key (Err e) named made = tt
 
 -- it is plain
-pub members_plain : (mapped : Mapped) (graph : Graph) (owner : ObjId) (place : RelNo) (relation : Relation) (key : List Value) (own : Object) (r : Result Select Refusal) → HasHierarchies mapped → AreRelated mapped → ObjectFits mapped own
+pub members_plain : {E : Type 0} (mapped : Mapped) (graph : Graph) (owner : ObjId) (place : RelNo) (relation : Relation) (key : List Value) (own : Object) (r : Result Select E) → HasHierarchies mapped → AreRelated mapped → ObjectFits mapped own
     → own ≡ object_at graph owner → (object_at graph owner).state ≡ Persistent → is_identified own ≡ true → key ≡ identity_key graph owner → place.0 < length (relations_of mapped (object_at graph owner).class)
     → relation ≡ relation_of mapped (object_at graph owner).class place → relation.many ≡ true → IfOk r (λ s. s ≡ members_select mapped relation key) → IfOk r (IsPlainSelect mapped.schema)
 members_plain mapped graph owner place relation key own (Ok s) has related fits is persistent identity named within which many made =
@@ -189,12 +189,12 @@ pub members_refused : {K : Type 0} (moment : K → Moment Store) (mapped : Mappe
 members_refused moment mapped relation which owner place {own = own} {now = now} {old = old} {new = new} e same p =
     subst (λ (one : Relation). Runs (moment_beside moment) (λ (u : Unit {0}). u) (load_collection mapped one owner place) (own, old) (Err e) (now, new)) same (select_refused moment mapped relation owner place p)
 
-pub related_told : {A : Type 0} (mapped : Mapped) (graph : Graph) (owner : ObjId) (place : RelNo) (relation : Relation) (own : Object) (r : Result A Refusal) → AreRelated mapped → ObjectFits mapped own → own ≡ object_at graph owner
+pub related_told : {A E : Type 0} (mapped : Mapped) (graph : Graph) (owner : ObjId) (place : RelNo) (relation : Relation) (own : Object) (r : Result A E) → AreRelated mapped → ObjectFits mapped own → own ≡ object_at graph owner
     → place.0 < length (relations_of mapped (object_at graph owner).class) → relation ≡ relation_of mapped (object_at graph owner).class place → IfOk r (λ _. IsRelated mapped relation)
 related_told mapped graph owner place relation own (Ok x) related fits is within which = owned_related mapped graph owner place relation own related fits is within which
 related_told mapped graph owner place relation own (Err e) related fits is within which = tt
 
-pub has_told : {A : Type 0} (mapped : Mapped) (r : Result A Refusal) → HasHierarchies mapped → IfOk r (λ _. HasHierarchies mapped)
+pub has_told : {A E : Type 0} (mapped : Mapped) (r : Result A E) → HasHierarchies mapped → IfOk r (λ _. HasHierarchies mapped)
 has_told mapped (Ok x) has = has
 has_told mapped (Err e) has = tt
 

@@ -237,14 +237,14 @@ own_key_fits mapped graph object own fits is persistent has = ap (λ (o : Object
     by None e h = identified own (object_at graph object) is persistent has e
     by (Some key) e h = h
 
-pub select_is : (mapped : Mapped) (graph : Graph) (object : ObjId) (attrs : List AttrNo) (key : List Value) (own : Object) (r : Result Select Refusal) → own ≡ object_at graph object → key ≡ identity_key graph object
+pub select_is : {E : Type 0} (mapped : Mapped) (graph : Graph) (object : ObjId) (attrs : List AttrNo) (key : List Value) (own : Object) (r : Result Select E) → own ≡ object_at graph object → key ≡ identity_key graph object
     → IfOk r (λ s. s ≡ cells_select mapped own.class attrs key) → IfOk r (λ s. s ≡ cells_select mapped (object_at graph object).class attrs (identity_key graph object))
 select_is mapped graph object attrs key own (Ok s) is named made =
     made ∙ ap (λ (o : Object). cells_select mapped o.class attrs key) is ∙ ap (cells_select mapped (object_at graph object).class attrs) named
 select_is mapped graph object attrs key own (Err e) is named made = tt
 
 -- it is plain
-pub cells_plain : (mapped : Mapped) (graph : Graph) (object : ObjId) (attrs : List AttrNo) (key : List Value) (own : Object) (r : Result Select Refusal) → HasHierarchies mapped → ObjectFits mapped own → own ≡ object_at graph object
+pub cells_plain : {E : Type 0} (mapped : Mapped) (graph : Graph) (object : ObjId) (attrs : List AttrNo) (key : List Value) (own : Object) (r : Result Select E) → HasHierarchies mapped → ObjectFits mapped own → own ≡ object_at graph object
     → (object_at graph object).state ≡ Persistent → is_identified own ≡ true → key ≡ identity_key graph object → All (IsAttribute mapped (object_at graph object).class) attrs → IfOk r (λ s. s ≡ cells_select mapped own.class attrs key)
     → IfOk r (IsPlainSelect mapped.schema)
 cells_plain mapped graph object attrs key own (Ok s) has fits is persistent identity named there made =
@@ -255,7 +255,7 @@ cells_plain mapped graph object attrs key own (Ok s) has fits is persistent iden
 cells_plain mapped graph object attrs key own (Err e) has fits is persistent identity named there made = tt
 
 -- what is answered to it are values of the kinds of the cells
-pub cells_told : (mapped : Mapped) (graph : Graph) (object : ObjId) (attrs : List AttrNo) (own : Object) (r : Result Select Refusal) → HasHierarchies mapped → ObjectFits mapped own → own ≡ object_at graph object
+pub cells_told : {E : Type 0} (mapped : Mapped) (graph : Graph) (object : ObjId) (attrs : List AttrNo) (own : Object) (r : Result Select E) → HasHierarchies mapped → ObjectFits mapped own → own ≡ object_at graph object
     → All (IsAttribute mapped (object_at graph object).class) attrs → IfOk r (λ s. s ≡ cells_select mapped (object_at graph object).class attrs (identity_key graph object))
     → IfOk r (λ s. (rows : Rows) → AreOfItems mapped.schema s rows → AllByRecursion (AreCellsOf mapped (object_at graph object).class attrs) rows)
 cells_told mapped graph object attrs own (Ok s) has fits is there made = λ rows kinds.

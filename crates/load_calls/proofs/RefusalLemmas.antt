@@ -1,5 +1,5 @@
 -- Why loads are refused.
-use Rattle.std.proofs.Common.{◌≡◌, ◌+◌, Bool, true, false, nat_lt, List, length, Option, None, Some, Result, Ok, Err, IfErr, if◌then◌else◌, refl, ap, sym, subst}
+use Rattle.std.proofs.Common.{◌≡◌, ◌+◌, Bool, true, false, nat_lt, List, length, Option, None, Some, Result, Ok, Err, IfErr, if◌then◌else◌, refl, ap, subst}
 use Rattle.base_core.specs.declared.ids.ClassId.{ClassId}
 use Rattle.base_core.specs.declared.ids.ObjId.{ObjId}
 use Rattle.base_core.specs.declared.value.Value.{Value}
@@ -97,8 +97,3 @@ refused_select mapped s (Err e) h = of_select mapped s e h
 pub refused_load : {A : Type 0} (mapped : Mapped) (object : ObjId) (r : Result A Refusal) → IfErr r (CanRefuseRows mapped) → IfErr r (CanRefuseLoad mapped object)
 refused_load mapped object (Ok x) h = tt
 refused_load mapped object (Err e) h = of_rows mapped object e h
-
--- memory alone refuses it
-pub lost_alone_refuses : {A : Type 0} (P : Refusal → Type 0) (r : Result A Refusal) → IfErr r (λ e. e ≡ Memory) → P Memory → IfErr r P
-lost_alone_refuses P (Ok x) h p = tt
-lost_alone_refuses P (Err e) h p = subst P (sym h) p

@@ -12,7 +12,6 @@ use Rattle.keeper_core.specs.Store.{Store}
 use Rattle.keeper_core.specs.declared.notes.Note.{Note}
 use Rattle.keeper_core.specs.declared.notes.Note.TheVariants as note
 use Rattle.keeper_core.specs.Calls as call
-use Rattle.keeper_core.specs.Keeping.{HoldsLegalRows}
 use Rattle.load_rows.specs.Loading.{Loading}
 
 -- the world of loads: the store, and beside it the objects and the notes
@@ -40,13 +39,16 @@ read schema select = on_store with_statements (call.query schema select)
 
 -- ---- the keeper
 
--- it took its target, a transaction is in progress, and the rows that it tells, where it does, are legal
-pub record IsReady (schema : Catalog) (moment : Moment Store) : Type 0 where
+-- it took its target, and a transaction is in progress
+pub record IsReady (moment : Moment Store) : Type 0 where
   pub attached : moment.attached ≡ true
   pub inside : 1 ≤ moment.depth
-  pub legal : HoldsLegalRows schema moment.told
+
+-- it is ready still, with as many scopes open as before
+abbrev pub IsReadyStill : Moment Store → Moment Store → Type 0
+IsReadyStill before moment = IsReady moment × (moment.depth ≡ before.depth)
 
 -- a load leaves it so, unless memory or the store ended it early
-abbrev pub StaysReady : {A : Type 0} → Catalog → Result A Refusal → Moment Store → Type 0
-StaysReady schema (Ok x) moment = IsReady schema moment
-StaysReady schema (Err e) moment = ends_early e ≡ false → IsReady schema moment
+abbrev pub StaysReady : {A : Type 0} → Moment Store → Result A Refusal → Moment Store → Type 0
+StaysReady before (Ok x) moment = IsReadyStill before moment
+StaysReady before (Err e) moment = ends_early e ≡ false → IsReadyStill before moment

@@ -2,7 +2,6 @@
 
 ghost use Rattle.std.specs.Prelude.{◌≡◌, ◌<◌, true, length, IfErr, IfOk};
 ghost use Rattle.std.specs.List.{AllByRecursion};
-ghost use Rattle.base_core.specs.declared.refusal.Refusal.TheVariants.{Memory};
 ghost use Rattle.class_mapping.specs.Mapped.{IsClass, relations_of};
 ghost use Rattle.class_mapping.specs.Related.{IsRelated};
 ghost use Rattle.object_arena.specs.declared.object.State.TheVariants.{Persistent};
@@ -28,9 +27,8 @@ use collection_selects::members_select;
 use expr_types::Select;
 use keeper_core::{Keeper, Notes};
 use load_rows::{fill_collection, identity_key, relation_at};
-use mapping_laws::has_hierarchies;
 use object_arena::Arena;
-use std::alloc::Global;
+use std::alloc::{AllocError, Global};
 use std::mem::drop;
 
 /// The select of the members of a persistent owner.
@@ -41,8 +39,7 @@ fn select_of_members(
     relation: &Relation,
     owner: ObjId,
     place: RelNo,
-) -> Result<Select, Refusal>
-    requires configured { mapping.now.configured ≡ true }
+) -> Result<Select, AllocError>
     requires fit { IsFit mapping.now arena.now }
     requires owner { IsObject arena.now owner }
     requires persistent { (object_at arena.now owner).state ≡ Persistent }
@@ -55,9 +52,9 @@ fn select_of_members(
     ensures plain { IfOk result (IsPlainSelect mapping.now.schema) }
     ensures related { IfOk result (λ _. IsRelated mapping.now relation.now) }
     ensures hierarchies { IfOk result (λ _. HasHierarchies mapping.now) }
-    ensures cause { IfErr result (λ e. e ≡ Memory) }
 {
-    let _ = (has_hierarchies(mapping), mapping.is_configured(), place);
+    let _ = mapping.schema();
+    let _ = place;
     let _ = arena.object(owner);
     let key = identity_key(alloc, arena, owner)?;
     members_select(alloc, mapping, relation, &key)
@@ -74,7 +71,6 @@ fn read_members<K: Keeper>(
     place: RelNo,
     notes: &mut Notes,
 ) -> Result<RowList, Refusal>
-    requires configured { mapping.now.configured ≡ true }
     requires fit { IsFit mapping.now arena.now }
     requires owner { IsObject arena.now owner }
     requires persistent { (object_at arena.now owner).state ≡ Persistent }
@@ -82,12 +78,12 @@ fn read_members<K: Keeper>(
     requires relation { relation.now
         ≡ relation_of mapping.now (object_at arena.now owner).class place }
     requires many { relation.now.many ≡ true }
-    requires ready { IsReady mapping.now.schema (K.moment keeper.old) }
+    requires ready { IsReady (K.moment keeper.old) }
     ensures step { Runs (moment_beside K.moment) (λ rows. rows)
         (spec.read_members mapping.now relation.now owner)
         (loading arena.now notes.old, keeper.old) result
         (loading arena.now notes.new, keeper.new) }
-    ensures stays { StaysReady mapping.now.schema result (K.moment keeper.new) }
+    ensures stays { StaysReady (K.moment keeper.old) result (K.moment keeper.new) }
     ensures target { IfOk result (λ _. IsClass mapping.now relation.now.target) }
     ensures rows { IfOk result (AllByRecursion (IsRowOf mapping.now relation.now.target)) }
     ensures refuses { IfErr result (CanRefuseRows mapping.now) }
@@ -115,18 +111,17 @@ pub fn load_collection<K: Keeper>(
     place: RelNo,
     notes: &mut Notes,
 ) -> Result<(), Refusal>
-    requires configured { mapping.now.configured ≡ true }
     requires fit { IsFit mapping.now arena.old }
     requires owner { IsObject arena.old owner }
     requires persistent { (object_at arena.old owner).state ≡ Persistent }
     requires place { place.0 < length (relations_of mapping.now (object_at arena.old owner).class) }
     requires many { (relation_of mapping.now (object_at arena.old owner).class place).many ≡ true }
-    requires ready { IsReady mapping.now.schema (K.moment keeper.old) }
+    requires ready { IsReady (K.moment keeper.old) }
     ensures step { Runs (moment_beside K.moment) (λ u. u) (spec.load_collection mapping.now
         (relation_of mapping.now (object_at arena.old owner).class place) owner place)
         (loading arena.old notes.old, keeper.old) result
         (loading arena.new notes.new, keeper.new) }
-    ensures stays { StaysReady mapping.now.schema result (K.moment keeper.new) }
+    ensures stays { StaysReady (K.moment keeper.old) result (K.moment keeper.new) }
     ensures grows { Grows arena.old arena.new }
     ensures fits { IsFit mapping.now arena.new }
     ensures refuses { IfErr result (CanRefuseRows mapping.now) }
@@ -143,7 +138,7 @@ pub fn load_collection<K: Keeper>(
         rows.as_slice(),
         notes,
     )?;
-    fill_collection(
+    Ok(fill_collection(
         alloc,
         arena,
         mapping,
@@ -151,5 +146,5 @@ pub fn load_collection<K: Keeper>(
         place,
         members.as_slice(),
         notes,
-    )
+    )?)
 }

@@ -8,5 +8,5 @@ mod rows;
 
 pub use collections::load_collection;
 pub use reading::read;
-pub use refreshing::refresh;
+pub use refreshing::{read_cells, refresh, take_cells};
 pub use rows::take_rows;

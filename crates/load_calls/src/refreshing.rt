@@ -1,8 +1,7 @@
 //! The reading of an object's expired cells.
 
-ghost use Rattle.std.specs.Prelude.{◌≡◌, ◌==◌, List, true, length, IfErr, IfOk, OnOk};
+ghost use Rattle.std.specs.Prelude.{◌≡◌, ◌==◌, List, length, IfErr, IfOk, OnOk};
 ghost use Rattle.std.specs.List.{All, AllByRecursion, position};
-ghost use Rattle.base_core.specs.declared.refusal.Refusal.TheVariants.{Memory};
 ghost use Rattle.base_core.specs.declared.value.Value.{Value};
 ghost use Rattle.class_mapping.specs.Mapped.{IsAttribute};
 ghost use Rattle.object_arena.specs.declared.object.State.TheVariants.{Persistent};
@@ -30,15 +29,13 @@ use expr_types::Select;
 use keeper_core::{Keeper, Notes};
 use load_filling::cells_select;
 use load_rows::{fill_noted, identity_key};
-use mapping_laws::has_hierarchies;
 use object_arena::{Arena, Object};
-use std::alloc::Global;
+use std::alloc::{AllocError, Global};
 use std::mem::drop;
 
 /// The attributes whose cells are expired, in order.
-fn expired_attrs(alloc: Global, object: &Object) -> Result<ListOf<AttrNo>, Refusal>
-    ensures attrs { IfOk result (λ attrs. attrs ≡ spec.expired_attrs object.now) }
-    ensures cause { IfErr result (λ e. e ≡ Memory) }
+fn expired_attrs(alloc: Global, object: &Object) -> Result<ListOf<AttrNo>, AllocError>
+    ensures { IfOk result (λ attrs. attrs ≡ spec.expired_attrs object.now) }
 {
     let mut out = ListOf::new(alloc);
     let cells = object.cells.as_slice();
@@ -57,8 +54,7 @@ fn select_of_cells(
     mapping: &Mapping,
     object: ObjId,
     attrs: &[AttrNo],
-) -> Result<Select, Refusal>
-    requires configured { mapping.now.configured ≡ true }
+) -> Result<Select, AllocError>
     requires fit { IsFit mapping.now arena.now }
     requires object { IsObject arena.now object }
     requires persistent { (object_at arena.now object).state ≡ Persistent }
@@ -68,16 +64,18 @@ fn select_of_cells(
     ensures plain { IfOk result (IsPlainSelect mapping.now.schema) }
     ensures cells { IfOk result (λ s. (rows : List (List Value)) → AreOfItems mapping.now.schema s rows
         → AllByRecursion (AreCellsOf mapping.now (object_at arena.now object).class attrs.now) rows) }
-    ensures cause { IfErr result (λ e. e ≡ Memory) }
 {
-    let _ = has_hierarchies(mapping);
+    let _ = mapping.schema();
     let class = arena.object(object).class;
     let key = identity_key(alloc, arena, object)?;
     cells_select(alloc, mapping, class, attrs, &key)
 }
 
 /// The rows of some cells of a persistent object: none, or its own.
-fn read_cells<K: Keeper>(
+///
+/// # Errors
+/// `OperationalError` where a table of its class was not created, `KeeperFault`, `Memory`.
+pub fn read_cells<K: Keeper>(
     alloc: Global,
     arena: &Arena,
     mapping: &Mapping,
@@ -86,17 +84,16 @@ fn read_cells<K: Keeper>(
     attrs: &[AttrNo],
     notes: &mut Notes,
 ) -> Result<RowList, Refusal>
-    requires configured { mapping.now.configured ≡ true }
     requires fit { IsFit mapping.now arena.now }
     requires object { IsObject arena.now object }
     requires persistent { (object_at arena.now object).state ≡ Persistent }
     requires attrs { All (IsAttribute mapping.now (object_at arena.now object).class) attrs.now }
-    requires ready { IsReady mapping.now.schema (K.moment keeper.old) }
+    requires ready { IsReady (K.moment keeper.old) }
     ensures step { Runs (moment_beside K.moment) (λ rows. rows)
         (spec.read_cells mapping.now object attrs.now)
         (loading arena.now notes.old, keeper.old) result
         (loading arena.now notes.new, keeper.new) }
-    ensures stays { StaysReady mapping.now.schema result (K.moment keeper.new) }
+    ensures stays { StaysReady (K.moment keeper.old) result (K.moment keeper.new) }
     ensures cells { IfOk result (AllByRecursion
         (AreCellsOf mapping.now (object_at arena.now object).class attrs.now)) }
     ensures refuses { IfErr result (spec.CanRefuseCells mapping.now) }
@@ -117,9 +114,8 @@ fn place_of(attrs: &[AttrNo], number: u32) -> Option<usize>
 }
 
 /// What the values of some attributes have for the cell of a number.
-fn found_at(attrs: &[AttrNo], values: &[Value], number: u32) -> Result<Option<Value>, Refusal>
-    ensures value { IfOk result (λ value. value ≡ spec.found_at attrs.now values.now number) }
-    ensures cause { IfErr result (λ e. e ≡ Memory) }
+fn found_at(attrs: &[AttrNo], values: &[Value], number: u32) -> Result<Option<Value>, AllocError>
+    ensures { IfOk result (λ value. value ≡ spec.found_at attrs.now values.now number) }
 {
     let Some(place) = place_of(attrs, number) else {
         return Ok(None);
@@ -137,9 +133,8 @@ fn found_among(
     count: usize,
     attrs: &[AttrNo],
     values: &[Value],
-) -> Result<ListOf<Option<Value>>, Refusal>
-    ensures found { IfOk result (λ found. found ≡ spec.found_among count attrs.now values.now) }
-    ensures cause { IfErr result (λ e. e ≡ Memory) }
+) -> Result<ListOf<Option<Value>>, AllocError>
+    ensures { IfOk result (λ found. found ≡ spec.found_among count attrs.now values.now) }
 {
     let mut found = ListOf::new(alloc);
     for place in 0..count {
@@ -157,12 +152,11 @@ fn fill_cells(
     attrs: &[AttrNo],
     values: &[Value],
     notes: &mut Notes,
-) -> Result<(), Refusal>
+) -> Result<(), AllocError>
     requires { IsObject arena.old object }
     ensures filled { OnOk result (loading arena.new notes.new ≡ filled object
         (spec.found_among (length (object_at arena.old object).cells) attrs.now values.now)
         (loading arena.old notes.old)) }
-    ensures cause { IfErr result (λ e. e ≡ Memory) }
     ensures keeps { KeepsWith (AreFoundFor (object_at arena.old object).class
         (spec.found_among (length (object_at arena.old object).cells) attrs.now values.now))
         arena.old arena.new }
@@ -172,8 +166,11 @@ fn fill_cells(
     fill_noted(arena, object, found.as_slice(), notes)
 }
 
-/// The expired cells of an object hold what its row has for them.
-fn take_cells(
+/// The expired cells of an object hold what its row has for them, and the object is noted where one of them was filled.
+///
+/// # Errors
+/// `ObjectDeletedError` of the object where there is no row, and nothing is filled then. `Memory`.
+pub fn take_cells(
     alloc: Global,
     arena: &mut Arena,
     object: ObjId,
@@ -191,7 +188,7 @@ fn take_cells(
     ensures cause { IfErr result (spec.IsDeletedOrMemory object) }
 {
     match rows.get(0) {
-        Some(row) => fill_cells(alloc, arena, object, attrs, row.as_slice(), notes),
+        Some(row) => Ok(fill_cells(alloc, arena, object, attrs, row.as_slice(), notes)?),
         None => Err(Refusal::ObjectDeletedError(object)),
     }
 }
@@ -209,15 +206,14 @@ pub fn refresh<K: Keeper>(
     object: ObjId,
     notes: &mut Notes,
 ) -> Result<(), Refusal>
-    requires configured { mapping.now.configured ≡ true }
     requires fit { IsFit mapping.now arena.old }
     requires object { IsObject arena.old object }
     requires persistent { (object_at arena.old object).state ≡ Persistent }
-    requires ready { IsReady mapping.now.schema (K.moment keeper.old) }
+    requires ready { IsReady (K.moment keeper.old) }
     ensures step { Runs (moment_beside K.moment) (λ u. u) (spec.refresh mapping.now object)
         (loading arena.old notes.old, keeper.old) result
         (loading arena.new notes.new, keeper.new) }
-    ensures stays { StaysReady mapping.now.schema result (K.moment keeper.new) }
+    ensures stays { StaysReady (K.moment keeper.old) result (K.moment keeper.new) }
     ensures fits { IsFit mapping.now arena.new }
     ensures classes { classes_of arena.new ≡ classes_of arena.old }
     ensures refuses { IfErr result (spec.CanRefuse mapping.now object) }

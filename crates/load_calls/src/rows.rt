@@ -30,7 +30,6 @@ fn take_next(
     notes: &mut Notes,
 ) -> Result<(), Refusal>
     requires class { IsClass mapping.now class }
-    requires configured { mapping.now.configured ≡ true }
     requires fit { IsFit mapping.now arena.old }
     requires row { IsRowOf mapping.now class values.now }
     ensures step { Runs alone (λ _. objects.new)
@@ -45,7 +44,7 @@ fn take_next(
     ensures refuses { IfErr result CanRefuseRow }
 {
     let object = take_row(alloc, arena, mapping, class, values, notes)?;
-    objects.push(object)
+    Ok(objects.push(object)?)
 }
 
 /// The objects of rows, in order, each filled by its row.
@@ -62,7 +61,6 @@ pub fn take_rows(
     notes: &mut Notes,
 ) -> Result<ObjList, Refusal>
     requires class { IsClass mapping.now class }
-    requires configured { mapping.now.configured ≡ true }
     requires fit { IsFit mapping.now arena.old }
     requires rows { AllByRecursion (IsRowOf mapping.now class) rows.now }
     ensures step { Runs alone (λ objects. objects) (spec.take_rows mapping.now class rows.now)

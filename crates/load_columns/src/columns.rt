@@ -1,9 +1,8 @@
 //! Columns of tables and of sources.
 
-ghost use Rattle.std.specs.Prelude.{◌≡◌, ◌++◌, true, Some, IfOk, IfErr, OnOk};
+ghost use Rattle.std.specs.Prelude.{◌≡◌, ◌++◌, Some, IfOk, OnOk};
 ghost use Rattle.std.specs.List.{position};
 ghost use Rattle.std.specs.Option.{option_copied};
-ghost use Rattle.base_core.specs.declared.refusal.Refusal.TheVariants.{Memory};
 ghost use Rattle.schema_core.specs.Catalog.{same_name};
 ghost use Rattle.class_layouts.specs.Columns.{columns_in};
 ghost use Rattle.class_sides.specs.Keys.{foreign_at, names_of};
@@ -11,12 +10,12 @@ ghost use Rattle.class_mapping.specs.Mapped.{IsClass};
 ghost use Rattle.load_columns.specs.Placing as spec;
 
 use crate::placing::{Placement, SourceColumn, place_at_rank, place_of_table, table_at_rank};
-use base_core::{ClassId, ColumnNo, ListOf, Name, Refusal, TableId};
+use base_core::{ClassId, ColumnNo, ListOf, Name, TableId};
 use class_layouts::{columns_of, foreigns_of, number_of};
 use class_mapping::{Attribute, Mapping};
 use class_sides::{TableKey, names_of};
 use schema_core::{ColumnSpec, ForeignSpec};
-use std::alloc::Global;
+use std::alloc::{AllocError, Global};
 
 /// The columns of a table.
 fn table_columns(mapping: &Mapping, table: TableId) -> &[ColumnSpec]
@@ -59,15 +58,14 @@ pub fn referred_table(mapping: &Mapping, key: TableKey) -> TableId
     }
 }
 
-/// The columns of the primary key of a table. The only refusal is `Memory`.
+/// The columns of the primary key of a table.
 #[tactic(auto, using(class_layouts::proofs::Steps::steps))]
 pub fn key_numbers(
     alloc: Global,
     mapping: &Mapping,
     table: TableId,
-) -> Result<ListOf<ColumnNo>, Refusal>
-    ensures numbers { IfOk result (λ numbers. numbers ≡ spec.key_numbers mapping.now table) }
-    ensures cause { IfErr result (λ e. e ≡ Memory) }
+) -> Result<ListOf<ColumnNo>, AllocError>
+    ensures { IfOk result (λ numbers. numbers ≡ spec.key_numbers mapping.now table) }
 {
     let mut numbers = ListOf::new(alloc);
     let columns = table_columns(mapping, table);
@@ -87,10 +85,9 @@ fn place_named(columns: &[ColumnSpec], name: &Name) -> Option<usize>
 }
 
 /// The column of a name.
-pub fn column_named(mapping: &Mapping, table: TableId, name: &Name) -> Result<ColumnNo, Refusal>
-    ensures column { IfOk result
+pub fn column_named(mapping: &Mapping, table: TableId, name: &Name) -> Result<ColumnNo, AllocError>
+    ensures { IfOk result
         (λ column. column ≡ spec.column_named mapping.now table name.now) }
-    ensures cause { IfErr result (λ e. e ≡ Memory) }
 {
     match place_named(table_columns(mapping, table), name) {
         Some(place) => Ok(ColumnNo(number_of(place)?)),
@@ -98,14 +95,13 @@ pub fn column_named(mapping: &Mapping, table: TableId, name: &Name) -> Result<Co
     }
 }
 
-/// The columns of a foreign key. The only refusal is `Memory`.
+/// The columns of a foreign key.
 pub fn foreign_numbers(
     alloc: Global,
     mapping: &Mapping,
     key: TableKey,
-) -> Result<ListOf<ColumnNo>, Refusal>
-    ensures numbers { IfOk result (λ numbers. numbers ≡ spec.foreign_numbers mapping.now key) }
-    ensures cause { IfErr result (λ e. e ≡ Memory) }
+) -> Result<ListOf<ColumnNo>, AllocError>
+    ensures { IfOk result (λ numbers. numbers ≡ spec.foreign_numbers mapping.now key) }
 {
     let mut numbers = ListOf::new(alloc);
     let names = foreign_names(mapping, key);
@@ -115,14 +111,13 @@ pub fn foreign_numbers(
     Ok(numbers)
 }
 
-/// Columns of one source. The only refusal is `Memory`.
+/// Columns of one source.
 pub fn columns_at(
     alloc: Global,
     source: u32,
     numbers: &[ColumnNo],
-) -> Result<ListOf<SourceColumn>, Refusal>
-    ensures columns { IfOk result (λ columns. columns ≡ spec.columns_at source numbers.now) }
-    ensures cause { IfErr result (λ e. e ≡ Memory) }
+) -> Result<ListOf<SourceColumn>, AllocError>
+    ensures { IfOk result (λ columns. columns ≡ spec.columns_at source numbers.now) }
 {
     let mut columns = ListOf::new(alloc);
     for number in numbers {
@@ -140,12 +135,10 @@ pub fn attribute_column(
     class: ClassId,
     placement: Placement,
     attribute: &Attribute,
-) -> Result<SourceColumn, Refusal>
+) -> Result<SourceColumn, AllocError>
     requires class { IsClass mapping.now class }
-    requires configured { mapping.now.configured ≡ true }
-    ensures column { IfOk result
+    ensures { IfOk result
         (λ column. column ≡ spec.attribute_column mapping.now class placement attribute.now) }
-    ensures cause { IfErr result (λ e. e ≡ Memory) }
 {
     Ok(SourceColumn {
         source: place_of_table(mapping, class, placement, attribute.table)?,
@@ -153,18 +146,16 @@ pub fn attribute_column(
     })
 }
 
-/// The columns of the attributes of a class, in their order. The only refusal is `Memory`.
+/// The columns of the attributes of a class, in their order.
 pub fn attribute_columns(
     alloc: Global,
     mapping: &Mapping,
     class: ClassId,
     placement: Placement,
-) -> Result<ListOf<SourceColumn>, Refusal>
+) -> Result<ListOf<SourceColumn>, AllocError>
     requires class { IsClass mapping.now class }
-    requires configured { mapping.now.configured ≡ true }
-    ensures columns { IfOk result
+    ensures { IfOk result
         (λ columns. columns ≡ spec.attribute_columns mapping.now class placement) }
-    ensures cause { IfErr result (λ e. e ≡ Memory) }
 {
     let mut columns = ListOf::new(alloc);
     let attributes = mapping.attributes(class);
@@ -174,46 +165,45 @@ pub fn attribute_columns(
     Ok(columns)
 }
 
-/// The primary key of a class's table of a rank. The only refusal is `Memory`.
+/// The primary key of a class's table of a rank.
 pub fn key_at_rank(
     alloc: Global,
     mapping: &Mapping,
     class: ClassId,
     placement: Placement,
     rank: u32,
-) -> Result<ListOf<SourceColumn>, Refusal>
+) -> Result<ListOf<SourceColumn>, AllocError>
     requires class { IsClass mapping.now class }
-    requires configured { mapping.now.configured ≡ true }
-    ensures columns { IfOk result
+    ensures { IfOk result
         (λ columns. columns ≡ spec.key_at_rank mapping.now class placement rank) }
-    ensures cause { IfErr result (λ e. e ≡ Memory) }
 {
     let place = place_at_rank(placement, rank)?;
     let numbers = key_numbers(alloc, mapping, table_at_rank(mapping, class, rank))?;
     columns_at(alloc, place, numbers.as_slice())
 }
 
-/// The primary key of the table of the class's root. The only refusal is `Memory`.
+/// The primary key of the table of the class's root.
 pub fn root_key(
     alloc: Global,
     mapping: &Mapping,
     class: ClassId,
     placement: Placement,
-) -> Result<ListOf<SourceColumn>, Refusal>
+) -> Result<ListOf<SourceColumn>, AllocError>
     requires class { IsClass mapping.now class }
-    ensures columns { IfOk result
+    ensures { IfOk result
         (λ columns. columns ≡ spec.root_key mapping.now class placement) }
-    ensures cause { IfErr result (λ e. e ≡ Memory) }
 {
     let place = place_at_rank(placement, 0)?;
     let numbers = key_numbers(alloc, mapping, mapping.root_table(class))?;
     columns_at(alloc, place, numbers.as_slice())
 }
 
-/// Columns go behind others. The only refusal is `Memory`.
-pub fn push_columns(out: &mut ListOf<SourceColumn>, columns: &[SourceColumn]) -> Result<(), Refusal>
-    ensures columns { OnOk result (out.new ≡ out.old ++ columns.now) }
-    ensures cause { IfErr result (λ e. e ≡ Memory) }
+/// Columns go behind others.
+pub fn push_columns(
+    out: &mut ListOf<SourceColumn>,
+    columns: &[SourceColumn],
+) -> Result<(), AllocError>
+    ensures { OnOk result (out.new ≡ out.old ++ columns.now) }
 {
     for column in columns {
         out.push(*column)?;

@@ -1,15 +1,14 @@
 //! Conditions over columns of sources. Each is a list of expressions of which all hold; the only refusal is `Memory`.
 
-ghost use Rattle.std.specs.Prelude.{◌≡◌, IfOk, IfErr, map};
+ghost use Rattle.std.specs.Prelude.{◌≡◌, IfOk, map};
 ghost use Rattle.std.specs.List.{flat_map};
-ghost use Rattle.base_core.specs.declared.refusal.Refusal.TheVariants.{Memory};
 ghost use Rattle.load_columns.specs.Conditions as spec;
 
 use crate::placing::SourceColumn;
-use base_core::{Copied, Key, ListOf, Refusal, RowValues, Value};
+use base_core::{Copied, Key, ListOf, RowValues, Value};
 use expr_types::{CompareOp, Expr, ExprList};
 use sqlite_items::{Boxed, Items};
-use std::alloc::Global;
+use std::alloc::{AllocError, Global};
 
 fn column_of(column: SourceColumn) -> Expr
     ensures { result ≡ spec.column_of column }
@@ -18,9 +17,8 @@ fn column_of(column: SourceColumn) -> Expr
 }
 
 /// Two columns are equal.
-fn equal_column(alloc: Global, one: SourceColumn, other: SourceColumn) -> Result<Expr, Refusal>
-    ensures equal { IfOk result (λ e. e ≡ spec.equal_column one other) }
-    ensures cause { IfErr result (λ e. e ≡ Memory) }
+fn equal_column(alloc: Global, one: SourceColumn, other: SourceColumn) -> Result<Expr, AllocError>
+    ensures { IfOk result (λ e. e ≡ spec.equal_column one other) }
 {
     let left = Boxed::new(alloc, column_of(one))?;
     let right = Boxed::new(alloc, column_of(other))?;
@@ -28,9 +26,8 @@ fn equal_column(alloc: Global, one: SourceColumn, other: SourceColumn) -> Result
 }
 
 /// A column holds a value.
-fn has_value(alloc: Global, column: SourceColumn, value: &Value) -> Result<Expr, Refusal>
-    ensures holds { IfOk result (λ e. e ≡ spec.has_value column value.now) }
-    ensures cause { IfErr result (λ e. e ≡ Memory) }
+fn has_value(alloc: Global, column: SourceColumn, value: &Value) -> Result<Expr, AllocError>
+    ensures { IfOk result (λ e. e ≡ spec.has_value column value.now) }
 {
     let left = Boxed::new(alloc, column_of(column))?;
     let right = Boxed::new(alloc, Expr::Lit(value.copied()?))?;
@@ -63,9 +60,8 @@ pub fn equal_columns(
     alloc: Global,
     columns: &[SourceColumn],
     others: &[SourceColumn],
-) -> Result<ExprList, Refusal>
-    ensures equal { IfOk result (λ es. es ≡ spec.equal_columns columns.now others.now) }
-    ensures cause { IfErr result (λ e. e ≡ Memory) }
+) -> Result<ExprList, AllocError>
+    ensures { IfOk result (λ es. es ≡ spec.equal_columns columns.now others.now) }
 {
     let mut out = Items::new(alloc);
     for (place, column) in columns.iter().enumerate() {
@@ -83,9 +79,8 @@ pub fn has_values(
     alloc: Global,
     columns: &[SourceColumn],
     values: &[Value],
-) -> Result<ExprList, Refusal>
-    ensures holds { IfOk result (λ es. es ≡ spec.has_values columns.now values.now) }
-    ensures cause { IfErr result (λ e. e ≡ Memory) }
+) -> Result<ExprList, AllocError>
+    ensures { IfOk result (λ es. es ≡ spec.has_values columns.now values.now) }
 {
     let mut out = Items::new(alloc);
     for (place, column) in columns.iter().enumerate() {
@@ -97,9 +92,8 @@ pub fn has_values(
     Ok(out)
 }
 
-fn first_value(key: &Key) -> Result<Value, Refusal>
-    ensures value { IfOk result (λ value. value ≡ spec.first_value key.now) }
-    ensures cause { IfErr result (λ e. e ≡ Memory) }
+fn first_value(key: &Key) -> Result<Value, AllocError>
+    ensures { IfOk result (λ value. value ≡ spec.first_value key.now) }
 {
     match key.get(0) {
         Some(value) => Ok(value.copied()?),
@@ -108,9 +102,8 @@ fn first_value(key: &Key) -> Result<Value, Refusal>
 }
 
 /// The first value of each key.
-fn first_values(alloc: Global, keys: &[Key]) -> Result<RowValues, Refusal>
-    ensures values { IfOk result (λ values. values ≡ map spec.first_value keys.now) }
-    ensures cause { IfErr result (λ e. e ≡ Memory) }
+fn first_values(alloc: Global, keys: &[Key]) -> Result<RowValues, AllocError>
+    ensures { IfOk result (λ values. values ≡ map spec.first_value keys.now) }
 {
     let mut values = ListOf::new(alloc);
     for key in keys {
@@ -120,17 +113,15 @@ fn first_values(alloc: Global, keys: &[Key]) -> Result<RowValues, Refusal>
 }
 
 /// A column is in a list.
-pub fn is_in(alloc: Global, column: SourceColumn, values: RowValues) -> Result<Expr, Refusal>
-    ensures within { IfOk result (λ e. e ≡ spec.is_in column values) }
-    ensures cause { IfErr result (λ e. e ≡ Memory) }
+pub fn is_in(alloc: Global, column: SourceColumn, values: RowValues) -> Result<Expr, AllocError>
+    ensures { IfOk result (λ e. e ≡ spec.is_in column values) }
 {
     Ok(Expr::InList(false, Boxed::new(alloc, column_of(column))?, values))
 }
 
 /// Each column holds the first value of one of the keys.
-fn hold_first(alloc: Global, columns: &[SourceColumn], keys: &[Key]) -> Result<ExprList, Refusal>
-    ensures among { IfOk result (λ es. es ≡ map (spec.holds_first keys.now) columns.now) }
-    ensures cause { IfErr result (λ e. e ≡ Memory) }
+fn hold_first(alloc: Global, columns: &[SourceColumn], keys: &[Key]) -> Result<ExprList, AllocError>
+    ensures { IfOk result (λ es. es ≡ map (spec.holds_first keys.now) columns.now) }
 {
     let mut out = Items::new(alloc);
     for column in columns {
@@ -142,10 +133,9 @@ fn hold_first(alloc: Global, columns: &[SourceColumn], keys: &[Key]) -> Result<E
 
 /// Columns hold each of the keys.
 #[tactic(auto, using(class_layouts::proofs::Steps::steps))]
-fn have_keys(alloc: Global, columns: &[SourceColumn], keys: &[Key]) -> Result<ExprList, Refusal>
-    ensures hold { IfOk result
+fn have_keys(alloc: Global, columns: &[SourceColumn], keys: &[Key]) -> Result<ExprList, AllocError>
+    ensures { IfOk result
         (λ es. es ≡ flat_map (spec.has_values columns.now) keys.now) }
-    ensures cause { IfErr result (λ e. e ≡ Memory) }
 {
     let mut out = Items::new(alloc);
     for key in keys {
@@ -159,9 +149,8 @@ fn key_conditions(
     alloc: Global,
     columns: &[SourceColumn],
     keys: &[Key],
-) -> Result<ExprList, Refusal>
-    ensures each { IfOk result (λ es. es ≡ map (spec.has_key columns.now) keys.now) }
-    ensures cause { IfErr result (λ e. e ≡ Memory) }
+) -> Result<ExprList, AllocError>
+    ensures { IfOk result (λ es. es ≡ map (spec.has_key columns.now) keys.now) }
 {
     let mut out = Items::new(alloc);
     for key in keys {
@@ -172,9 +161,12 @@ fn key_conditions(
 }
 
 /// Columns hold one of several keys.
-fn has_some_key(alloc: Global, columns: &[SourceColumn], keys: &[Key]) -> Result<ExprList, Refusal>
-    ensures some { IfOk result (λ es. es ≡ spec.has_some_key columns.now keys.now) }
-    ensures cause { IfErr result (λ e. e ≡ Memory) }
+fn has_some_key(
+    alloc: Global,
+    columns: &[SourceColumn],
+    keys: &[Key],
+) -> Result<ExprList, AllocError>
+    ensures { IfOk result (λ es. es ≡ spec.has_some_key columns.now keys.now) }
 {
     let parts = key_conditions(alloc, columns, keys)?;
     let mut out = Items::new(alloc);
@@ -187,9 +179,8 @@ pub fn has_one_of(
     alloc: Global,
     columns: &[SourceColumn],
     keys: &[Key],
-) -> Result<ExprList, Refusal>
-    ensures holds { IfOk result (λ es. es ≡ spec.has_one_of columns.now keys.now) }
-    ensures cause { IfErr result (λ e. e ≡ Memory) }
+) -> Result<ExprList, AllocError>
+    ensures { IfOk result (λ es. es ≡ spec.has_one_of columns.now keys.now) }
 {
     if columns.len() == 1 {
         return hold_first(alloc, columns, keys);

@@ -1,14 +1,14 @@
 //! Where the tables of a class stand among the sources of a select.
 
-ghost use Rattle.std.specs.Prelude.{◌≡◌, ◌==◌, true, IfOk, IfErr};
+ghost use Rattle.std.specs.Prelude.{◌≡◌, ◌==◌, IfOk};
 ghost use Rattle.std.specs.List.{position};
-ghost use Rattle.base_core.specs.declared.refusal.Refusal.TheVariants.{Memory};
 ghost use Rattle.class_mapping.specs.Mapped.{IsClass};
 ghost use Rattle.load_columns.specs.Placing as spec;
 
-use base_core::{ClassId, ColumnNo, Refusal, TableId};
+use base_core::{ClassId, ColumnNo, TableId};
 use class_layouts::number_of;
 use class_mapping::Mapping;
+use std::alloc::AllocError;
 
 /// Where the tables of a class stand among the sources of a select, one behind the other: at the place `first` the one that
 /// leads, which has the rank `leading` among them, and behind it the others from the root's on.
@@ -33,9 +33,8 @@ pub fn from_root(first: u32) -> Placement
 }
 
 /// The place of the table of a rank.
-pub fn place_at_rank(placement: Placement, rank: u32) -> Result<u32, Refusal>
-    ensures place { IfOk result (λ place. place ≡ spec.place_at_rank placement rank) }
-    ensures cause { IfErr result (λ e. e ≡ Memory) }
+pub fn place_at_rank(placement: Placement, rank: u32) -> Result<u32, AllocError>
+    ensures { IfOk result (λ place. place ≡ spec.place_at_rank placement rank) }
 {
     if rank == placement.leading {
         return Ok(placement.first);
@@ -54,11 +53,9 @@ fn place_among(tables: &[TableId], table: TableId) -> Option<usize>
 }
 
 /// The rank of a table among those of a class; the root's is 0.
-pub fn rank_of(mapping: &Mapping, class: ClassId, table: TableId) -> Result<u32, Refusal>
+pub fn rank_of(mapping: &Mapping, class: ClassId, table: TableId) -> Result<u32, AllocError>
     requires class { IsClass mapping.now class }
-    requires configured { mapping.now.configured ≡ true }
-    ensures rank { IfOk result (λ rank. rank ≡ spec.rank_of mapping.now class table) }
-    ensures cause { IfErr result (λ e. e ≡ Memory) }
+    ensures { IfOk result (λ rank. rank ≡ spec.rank_of mapping.now class table) }
 {
     match place_among(mapping.tables_of(class), table) {
         Some(rank) => number_of(rank),
@@ -69,7 +66,6 @@ pub fn rank_of(mapping: &Mapping, class: ClassId, table: TableId) -> Result<u32,
 /// The table of a rank among those of a class.
 pub(crate) fn table_at_rank(mapping: &Mapping, class: ClassId, rank: u32) -> TableId
     requires class { IsClass mapping.now class }
-    requires configured { mapping.now.configured ≡ true }
     ensures { result ≡ spec.table_at_rank mapping.now class rank }
 {
     match mapping.tables_of(class).get(rank as usize).copied() {
@@ -84,12 +80,10 @@ pub fn place_of_table(
     class: ClassId,
     placement: Placement,
     table: TableId,
-) -> Result<u32, Refusal>
+) -> Result<u32, AllocError>
     requires class { IsClass mapping.now class }
-    requires configured { mapping.now.configured ≡ true }
-    ensures place { IfOk result
+    ensures { IfOk result
         (λ place. place ≡ spec.place_of_table mapping.now class placement table) }
-    ensures cause { IfErr result (λ e. e ≡ Memory) }
 {
     let rank = rank_of(mapping, class, table)?;
     place_at_rank(placement, rank)

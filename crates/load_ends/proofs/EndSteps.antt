@@ -1,23 +1,20 @@
 -- Links that lead to what the identity map has.
-use Rattle.std.proofs.Common.{◌≡◌, ◌<◌, Bool, true, false, List, length, get_or, Option, None, Some, Result, Ok, Err, IfErr, OnOk, if◌then◌else◌, refl, sym, ap, subst, ◌∙◌}
+use Rattle.std.proofs.Common.{◌≡◌, ◌<◌, Bool, true, false, List, length, Option, None, Result, Ok, Err, OnOk, if◌then◌else◌, sym, ap, subst, ◌∙◌}
 use Rattle.std.specs.List.{All}
 use Rattle.std.specs.Option.{option_and_then}
 use Rattle.base_core.specs.declared.ids.ClassId.{ClassId}
 use Rattle.base_core.specs.declared.ids.ObjId.{ObjId}
 use Rattle.base_core.specs.declared.ids.RelNo.{RelNo}
 use Rattle.base_core.specs.declared.value.Value.{Value}
-use Rattle.base_core.specs.declared.refusal.Refusal.{Refusal}
-use Rattle.base_core.specs.declared.refusal.Refusal.TheVariants.{Memory}
 use Rattle.schema_core.specs.Tables.{has_null}
 use Rattle.class_types.specs.declared.mapped.Relation.{Relation}
-use Rattle.class_mapping.specs.Mapped.{IsClass, Mapped, relations_of, root_of}
-use Rattle.object_arena.specs.Fit.{relation_of}
-use Rattle.object_arena.specs.Graph.{Graph, object_at}
+use Rattle.class_mapping.specs.Mapped.{Mapped, relations_of, root_of}
+use Rattle.object_arena.specs.Graph.{Graph}
 use Rattle.object_arena.specs.Identity.{find_identity}
 use Rattle.keeper_core.specs.Alone.{alone}
 use Rattle.keeper_core.specs.Moment.{Reaches, Runs}
 use Rattle.keeper_core.specs.Programs.{each}
-use Rattle.keeper_core.proofs.AloneLemmas.{change_ok, lost_alone}
+use Rattle.keeper_core.proofs.AloneLemmas.{change_ok}
 use Rattle.keeper_core.proofs.Sequence.{reaches_start}
 use Rattle.load_filling.specs.Growing.{Grows}
 use Rattle.load_rows.specs.Loading.{Loading}
@@ -39,13 +36,13 @@ end_found mapped class graph key found end given is ends =
 -- ---- the links
 
 -- the link of an owner was filled
-pub owner_filled : (mapped : Mapped) (relation : Relation) (place : RelNo) (owner : ObjId) (key : List Value) (end : Option ObjId) (own now : Loading) (r : Result (Unit {0}) Refusal) → key ≡ key_of mapped relation own.graph owner
-    → end ≡ known_end mapped relation.target own.graph key → OnOk r (now ≡ end_filled owner place end own) → IfErr r (λ e. e ≡ Memory)
-    → Runs alone (λ (u : Unit {0}). u) (fill_owner mapped relation place owner tt) own r now
-owner_filled mapped relation place owner key end own now (Ok u) named ends is cause =
+pub owner_filled : {E : Type 0} (mapped : Mapped) (relation : Relation) (place : RelNo) (owner : ObjId) (key : List Value) (end : Option ObjId) (own now : Loading) (r : Result (Unit {0}) E) → key ≡ key_of mapped relation own.graph owner
+    → end ≡ known_end mapped relation.target own.graph key → OnOk r (now ≡ end_filled owner place end own)
+    → OnOk r (Runs alone (λ (u : Unit {0}). u) (fill_owner mapped relation place owner tt) own (Ok tt) now)
+owner_filled mapped relation place owner key end own now (Ok u) named ends is =
     change_ok (end_known mapped relation place owner)
     (is ∙ ap (λ (e : Option ObjId). end_filled owner place e own) (ends ∙ ap (λ (k : List Value). known_end mapped relation.target own.graph k) named))
-owner_filled mapped relation place owner key end own now (Err e) named ends is cause = lost_alone cause
+owner_filled mapped relation place owner key end own now (Err e) named ends is = tt
 
 -- the loop over owners begins
 pub owners_start : (mapped : Mapped) (relation : Relation) (place : RelNo) (owners : List ObjId) (own : Loading) → Reaches alone (fill_owners mapped relation place owners) own (each (fill_owner mapped relation place) tt owners) own

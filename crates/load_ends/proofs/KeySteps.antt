@@ -1,5 +1,5 @@
 -- The keys of targets that are to be read, each where it comes first.
-use Rattle.std.proofs.Common.{◌≡◌, Bool, true, false, not, ◌||◌, ◌&&◌, List, [], ◌∷◌, ◌++◌, Result, Ok, Err, OnOk, is_none, if◌then◌else◌, refl, sym, ap, subst, ◌∙◌}
+use Rattle.std.proofs.Common.{◌≡◌, Bool, true, false, not, ◌||◌, List, [], ◌∷◌, ◌++◌, Result, Ok, Err, OnOk, is_none, if◌then◌else◌, refl, sym, ap, subst, ◌∙◌}
 use Rattle.std.proofs.Math.Bool.{or-false}
 use Rattle.std.specs.BTreeSet.{BTreeSet, contains}
 use Rattle.std.specs.List.{All, list_any}
@@ -13,7 +13,6 @@ use Rattle.base_core.specs.declared.refusal.Refusal.{Refusal}
 use Rattle.schema_core.specs.Tables.{has_null, same_values}
 use Rattle.class_types.specs.declared.mapped.Relation.{Relation}
 use Rattle.class_mapping.specs.Mapped.{Mapped, root_of}
-use Rattle.object_arena.specs.Fit.{key_fits}
 use Rattle.object_arena.specs.Graph.{Graph}
 use Rattle.object_arena.specs.Identity.{find_identity}
 use Rattle.join_keys.proofs.KeyedRows.{same_row_equiv}
@@ -30,7 +29,7 @@ pub seen_first : (seen : BTreeSet (List Value)) (keys : Keys) (key : List Value)
 seen_first seen keys key b has asked so = sym (ap (λ (c : Bool). if c then keys else (keys ++ key ∷ [])) (sym (has.same key) ∙ sym asked ∙ so))
 
 -- one that was not goes behind the others
-pub new_first : (seen : BTreeSet (List Value)) (keys new : Keys) (key : List Value) (b : Bool) (r : Result (Unit {0}) Refusal) → HasSeen seen keys → b ≡ contains values_cmp seen key → b ≡ false → OnOk r (new ≡ keys ++ key ∷ [])
+pub new_first : {E : Type 0} (seen : BTreeSet (List Value)) (keys new : Keys) (key : List Value) (b : Bool) (r : Result (Unit {0}) E) → HasSeen seen keys → b ≡ contains values_cmp seen key → b ≡ false → OnOk r (new ≡ keys ++ key ∷ [])
     → OnOk r (new ≡ with_first keys key)
 new_first seen keys new key b (Ok u) has asked so pushed =
     pushed ∙ sym (ap (λ (c : Bool). if c then keys else (keys ++ key ∷ [])) (sym (has.same key) ∙ sym asked ∙ so))
@@ -43,7 +42,7 @@ turned false true = refl
 turned false false = refl
 
 -- the set has one more then
-pub seen_more : (seen more : BTreeSet (List Value)) (keys new : Keys) (key : List Value) (r : Result (Unit {0}) Refusal) → HasSeen seen keys
+pub seen_more : {E : Type 0} (seen more : BTreeSet (List Value)) (keys new : Keys) (key : List Value) (r : Result (Unit {0}) E) → HasSeen seen keys
     → ((other : List Value) → contains values_cmp more other ≡ (same_values key other || contains values_cmp seen other)) → OnOk r (new ≡ keys ++ key ∷ []) → OnOk r (HasSeen more new)
 seen_more seen more keys new key (Ok u) has entered pushed = record {
   same = λ other.
@@ -64,7 +63,7 @@ not_wanted mapped relation graph keys owner key b named asked so =
     ∙ ap (λ (c : Bool). if c then with_first keys key else keys) (sym asked ∙ so))
 
 -- it is
-pub is_put : (mapped : Mapped) (relation : Relation) (graph : Graph) (keys new : Keys) (owner : ObjId) (key : List Value) (b : Bool) (r : Result (Unit {0}) Refusal) → key ≡ key_of mapped relation graph owner
+pub is_put : {E : Type 0} (mapped : Mapped) (relation : Relation) (graph : Graph) (keys new : Keys) (owner : ObjId) (key : List Value) (b : Bool) (r : Result (Unit {0}) E) → key ≡ key_of mapped relation graph owner
     → b ≡ is_wanted mapped relation.target graph key → b ≡ true → OnOk r (new ≡ with_first keys key) → OnOk r (new ≡ with_key_of mapped relation graph keys owner)
 is_put mapped relation graph keys new owner key b (Ok u) named asked so put =
     put
@@ -86,6 +85,6 @@ first_by P keys key true one all = all
 first_by P keys key false one all = owned_more P key keys (keys ++ key ∷ []) (let r : Result (Unit {0}) Refusal = Ok tt in r) one refl all
 
 -- what is said of all keys is said of them with one more
-pub first_all : (P : List Value → Type 0) (keys new : Keys) (key : List Value) (r : Result (Unit {0}) Refusal) → P key → OnOk r (new ≡ with_first keys key) → All P keys → OnOk r (All P new)
+pub first_all : {E : Type 0} (P : List Value → Type 0) (keys new : Keys) (key : List Value) (r : Result (Unit {0}) E) → P key → OnOk r (new ≡ with_first keys key) → All P keys → OnOk r (All P new)
 first_all P keys new key (Ok u) one put all = subst (All P) (sym put) (first_by P keys key (list_any (same_values key) keys) one all)
 first_all P keys new key (Err e) one put all = tt

@@ -1,5 +1,5 @@
 -- The selects of targets, and the programs that read them.
-use Rattle.std.proofs.Common.{◌≡◌, ℕ, ◌<◌, true, false, List, [], ◌∷◌, length, Result, Ok, Err, IfOk, refl, sym, ap, subst, ◌∙◌, arith}
+use Rattle.std.proofs.Common.{◌≡◌, ℕ, ◌<◌, List, [], ◌∷◌, length, Result, Ok, Err, IfOk, refl, sym, subst, ◌∙◌, arith}
 use Rattle.std.specs.List.{All, AllByRecursion}
 use Rattle.base_core.specs.declared.ids.ClassId.{ClassId}
 use Rattle.base_core.specs.declared.ids.ObjId.{ObjId}
@@ -42,7 +42,7 @@ Rows = List (List Value)
 -- ---- the select of keys
 
 -- it is plain
-pub keys_plain : (mapped : Mapped) (class : ClassId) (keys : Rows) (r : Result Select Refusal) → HasHierarchies mapped → IsClass mapped class → 0 < length keys → All (FitsClass mapped class) keys → IfOk r (λ s. s ≡ targets_select mapped class keys)
+pub keys_plain : {E : Type 0} (mapped : Mapped) (class : ClassId) (keys : Rows) (r : Result Select E) → HasHierarchies mapped → IsClass mapped class → 0 < length keys → All (FitsClass mapped class) keys → IfOk r (λ s. s ≡ targets_select mapped class keys)
     → IfOk r (IsPlainSelect mapped.schema)
 keys_plain mapped class keys (Ok s) has less some fits made =
     subst (IsPlainSelect mapped.schema) (sym made)

@@ -1,8 +1,7 @@
 //! The filling of the links of several owners.
 
-ghost use Rattle.std.specs.Prelude.{◌≡◌, true, false, IfErr};
+ghost use Rattle.std.specs.Prelude.{◌≡◌, true, false, Ok, OnOk};
 ghost use Rattle.std.specs.List.{All};
-ghost use Rattle.base_core.specs.declared.refusal.Refusal.TheVariants.{Memory};
 ghost use Rattle.class_mapping.specs.Mapped.{IsClass, root_of};
 ghost use Rattle.object_arena.specs.Every.{classes_of};
 ghost use Rattle.object_arena.specs.Fit.{IsFit, end_fits};
@@ -11,13 +10,13 @@ ghost use Rattle.keeper_core.specs.Moment.{Runs};
 ghost use Rattle.load_rows.specs.Loading.{loading};
 ghost use Rattle.load_ends.specs.Ends as spec;
 
-use base_core::{ClassId, Key, ObjId, Refusal, RelNo};
+use base_core::{ClassId, Key, ObjId, RelNo};
 use class_mapping::{Mapping, Relation};
 use keeper_core::Notes;
 use load_rows::fill_end;
 use load_targets::{has_null, if_of, target_key};
 use object_arena::Arena;
-use std::alloc::Global;
+use std::alloc::{AllocError, Global};
 
 /// The object of a class that the identity map has under a key.
 fn known_end(arena: &Arena, mapping: &Mapping, class: ClassId, key: &Key) -> Option<ObjId>
@@ -44,17 +43,15 @@ fn fill_owner(
     place: RelNo,
     owner: ObjId,
     notes: &mut Notes,
-) -> Result<(), Refusal>
-    requires configured { mapping.now.configured ≡ true }
+) -> Result<(), AllocError>
     requires fit { IsFit mapping.now arena.old }
     requires owner { spec.IsChild mapping.now arena.old relation.now place owner }
     requires one { relation.now.many ≡ false }
-    ensures step { Runs alone (λ u. u)
+    ensures step { OnOk result (Runs alone (λ u. u)
         (spec.fill_owner mapping.now relation.now place owner tt)
-        (loading arena.old notes.old) result (loading arena.new notes.new) }
+        (loading arena.old notes.old) (Ok tt) (loading arena.new notes.new)) }
     ensures fits { IsFit mapping.now arena.new }
     ensures classes { classes_of arena.new ≡ classes_of arena.old }
-    ensures cause { IfErr result (λ e. e ≡ Memory) }
 {
     let key = target_key(alloc, &*arena, mapping, relation, owner, place)?;
     let end = known_end(&*arena, mapping, relation.target, &key);
@@ -71,17 +68,15 @@ pub(crate) fn fill_owners(
     place: RelNo,
     owners: &[ObjId],
     notes: &mut Notes,
-) -> Result<(), Refusal>
-    requires configured { mapping.now.configured ≡ true }
+) -> Result<(), AllocError>
     requires fit { IsFit mapping.now arena.old }
     requires owners { All (spec.IsChild mapping.now arena.old relation.now place) owners.now }
     requires one { relation.now.many ≡ false }
-    ensures step { Runs alone (λ u. u)
+    ensures step { OnOk result (Runs alone (λ u. u)
         (spec.fill_owners mapping.now relation.now place owners.now)
-        (loading arena.old notes.old) result (loading arena.new notes.new) }
+        (loading arena.old notes.old) (Ok tt) (loading arena.new notes.new)) }
     ensures fits { IsFit mapping.now arena.new }
     ensures classes { classes_of arena.new ≡ classes_of arena.old }
-    ensures cause { IfErr result (λ e. e ≡ Memory) }
 {
     for owner in owners {
         fill_owner(alloc, arena, mapping, relation, place, *owner, notes)?;

@@ -1,39 +1,36 @@
 //! The keys of targets that are to be read.
 
-ghost use Rattle.std.specs.Prelude.{◌≡◌, ◌||◌, List, true, false, IfErr, IfOk, OnOk};
+ghost use Rattle.std.specs.Prelude.{◌≡◌, ◌||◌, List, false, IfOk, OnOk};
 ghost use Rattle.std.specs.BTreeSet.{contains};
 ghost use Rattle.std.specs.List.{All};
 ghost use Rattle.base_core.specs.Order.{values_cmp};
 ghost use Rattle.base_core.specs.declared.value.Value.{Value};
-ghost use Rattle.base_core.specs.declared.refusal.Refusal.TheVariants.{Memory};
 ghost use Rattle.schema_core.specs.Tables.{same_values};
 ghost use Rattle.class_mapping.specs.Mapped.{IsClass};
 ghost use Rattle.object_arena.specs.Fit.{IsFit};
 ghost use Rattle.load_ends.specs.Ends as spec;
 
-use base_core::{ClassId, Copied, Key, KeyList, ListOf, ObjId, Refusal, RelNo};
+use base_core::{ClassId, Copied, Key, KeyList, ListOf, ObjId, RelNo};
 use class_mapping::{Mapping, Relation};
 use load_targets::{has_null, target_key};
 use object_arena::Arena;
-use std::alloc::Global;
+use std::alloc::{AllocError, Global};
 use std::collections::BTreeSet;
 
 /// A key is in a set.
-fn enter(seen: &mut BTreeSet<Key>, key: &Key) -> Result<(), Refusal>
-    ensures seen { OnOk result ((other : List Value) → contains values_cmp seen.new other
+fn enter(seen: &mut BTreeSet<Key>, key: &Key) -> Result<(), AllocError>
+    ensures { OnOk result ((other : List Value) → contains values_cmp seen.new other
         ≡ (same_values key.now other || contains values_cmp seen.old other)) }
-    ensures cause { IfErr result (λ e. e ≡ Memory) }
 {
     seen.insert(key.copied()?)?;
     Ok(())
 }
 
 /// A key goes behind others, unless it is among them. A set has them too.
-fn keep_first(seen: &mut BTreeSet<Key>, keys: &mut KeyList, key: Key) -> Result<(), Refusal>
+fn keep_first(seen: &mut BTreeSet<Key>, keys: &mut KeyList, key: Key) -> Result<(), AllocError>
     requires { spec.HasSeen seen.old keys.old }
     ensures keys { OnOk result (keys.new ≡ spec.with_first keys.old key) }
     ensures seen { OnOk result (spec.HasSeen seen.new keys.new) }
-    ensures cause { IfErr result (λ e. e ≡ Memory) }
 {
     if seen.contains(&key) {
         return Ok(());
@@ -60,8 +57,7 @@ fn push_wanted(
     relation: &Relation,
     owner: ObjId,
     place: RelNo,
-) -> Result<(), Refusal>
-    requires configured { mapping.now.configured ≡ true }
+) -> Result<(), AllocError>
     requires fit { IsFit mapping.now arena.now }
     requires owner { spec.IsChild mapping.now arena.now relation.now place owner }
     requires one { relation.now.many ≡ false }
@@ -71,7 +67,6 @@ fn push_wanted(
     ensures seen { OnOk result (spec.HasSeen seen.new keys.new) }
     ensures fits { All (spec.FitsClass mapping.now relation.now.target) keys.old
         → OnOk result (All (spec.FitsClass mapping.now relation.now.target) keys.new) }
-    ensures cause { IfErr result (λ e. e ≡ Memory) }
 {
     let key = target_key(alloc, arena, mapping, relation, owner, place)?;
     if !is_wanted(arena, mapping, relation.target, &key) {
@@ -90,15 +85,13 @@ pub(crate) fn wanted_keys(
     relation: &Relation,
     place: RelNo,
     owners: &[ObjId],
-) -> Result<KeyList, Refusal>
-    requires configured { mapping.now.configured ≡ true }
+) -> Result<KeyList, AllocError>
     requires fit { IsFit mapping.now arena.now }
     requires owners { All (spec.IsChild mapping.now arena.now relation.now place) owners.now }
     requires one { relation.now.many ≡ false }
     ensures keys { IfOk result
         (λ keys. keys ≡ spec.wanted_keys mapping.now relation.now arena.now owners.now) }
     ensures fits { IfOk result (All (spec.FitsClass mapping.now relation.now.target)) }
-    ensures cause { IfErr result (λ e. e ≡ Memory) }
 {
     let mut seen = BTreeSet::new(alloc);
     let mut keys = ListOf::new(alloc);

@@ -1,16 +1,15 @@
 //! Owners whose links are to be read.
 
-ghost use Rattle.std.specs.Prelude.{◌≡◌, ◌++◌, IfErr, IfOk, OnOk};
+ghost use Rattle.std.specs.Prelude.{◌≡◌, ◌++◌, IfOk, OnOk};
 ghost use Rattle.std.specs.List.{All};
-ghost use Rattle.base_core.specs.declared.refusal.Refusal.TheVariants.{Memory};
 ghost use Rattle.object_arena.specs.Fit.{IsFit};
 ghost use Rattle.load_ends.specs.Ends as spec;
 
-use base_core::{ListOf, ObjId, ObjList, Refusal, RelNo};
+use base_core::{ListOf, ObjId, ObjList, RelNo};
 use class_mapping::{Mapping, Relation};
 use load_batches::is_unloaded;
 use object_arena::Arena;
-use std::alloc::Global;
+use std::alloc::{AllocError, Global};
 
 /// An owner goes behind others, where its link at a place is unloaded.
 fn push_unloaded(
@@ -20,13 +19,12 @@ fn push_unloaded(
     relation: &Relation,
     place: RelNo,
     owner: ObjId,
-) -> Result<(), Refusal>
+) -> Result<(), AllocError>
     requires fit { IsFit mapping.now arena.now }
     requires owner { spec.IsChild mapping.now arena.now relation.now place owner }
     ensures owners { OnOk result (out.new ≡ out.old ++ spec.if_unloaded arena.now place owner) }
     ensures owned { All (spec.IsChild mapping.now arena.now relation.now place) out.old
         → OnOk result (All (spec.IsChild mapping.now arena.now relation.now place) out.new) }
-    ensures cause { IfErr result (λ e. e ≡ Memory) }
 {
     let _ = relation;
     if !is_unloaded(arena, mapping, owner, place) {
@@ -44,13 +42,12 @@ pub(crate) fn unloaded(
     relation: &Relation,
     place: RelNo,
     owners: &[ObjId],
-) -> Result<ObjList, Refusal>
+) -> Result<ObjList, AllocError>
     requires fit { IsFit mapping.now arena.now }
     requires owners { All (spec.IsChild mapping.now arena.now relation.now place) owners.now }
     ensures owners { IfOk result
         (λ found. found ≡ spec.unloaded arena.now place owners.now) }
     ensures owned { IfOk result (All (spec.IsChild mapping.now arena.now relation.now place)) }
-    ensures cause { IfErr result (λ e. e ≡ Memory) }
 {
     let mut found = ListOf::new(alloc);
     for owner in owners {

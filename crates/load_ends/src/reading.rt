@@ -1,8 +1,7 @@
 //! The reading of targets by batches of keys.
 
-ghost use Rattle.std.specs.Prelude.{◌≡◌, ◌<◌, true, false, length, IfErr, IfOk};
+ghost use Rattle.std.specs.Prelude.{◌≡◌, ◌<◌, false, length, IfErr, IfOk};
 ghost use Rattle.std.specs.List.{All, AllByRecursion};
-ghost use Rattle.base_core.specs.declared.refusal.Refusal.TheVariants.{Memory};
 ghost use Rattle.class_mapping.specs.Mapped.{IsClass};
 ghost use Rattle.class_mapping.specs.Related.{IsRelated};
 ghost use Rattle.object_arena.specs.Fit.{IsFit};
@@ -30,10 +29,9 @@ use keeper_core::{Keeper, Notes};
 use load_batches::batch_at;
 use load_calls::{read, take_rows};
 use load_selects::targets_select;
-use mapping_laws::has_hierarchies;
 use object_arena::Arena;
 use object_parts::batch_starts;
-use std::alloc::Global;
+use std::alloc::{AllocError, Global};
 
 /// The select of the rows of a class under keys.
 fn select_of_keys(
@@ -41,17 +39,15 @@ fn select_of_keys(
     mapping: &Mapping,
     class: ClassId,
     keys: &[Key],
-) -> Result<Select, Refusal>
-    requires configured { mapping.now.configured ≡ true }
+) -> Result<Select, AllocError>
     requires class { IsClass mapping.now class }
     requires some { 0 < length keys.now }
     requires keys { All (spec.FitsClass mapping.now class) keys.now }
     ensures select { IfOk result (λ s. s ≡ targets_select mapping.now class keys.now) }
     ensures plain { IfOk result (IsPlainSelect mapping.now.schema) }
     ensures hierarchies { IfOk result (λ _. HasHierarchies mapping.now) }
-    ensures cause { IfErr result (λ e. e ≡ Memory) }
 {
-    has_hierarchies(mapping);
+    let _ = mapping.schema();
     targets_select(alloc, mapping, class, keys)
 }
 
@@ -64,15 +60,14 @@ fn read_keys<K: Keeper>(
     keys: &[Key],
     notes: &mut Notes,
 ) -> Result<RowList, Refusal>
-    requires configured { mapping.now.configured ≡ true }
     requires class { IsClass mapping.now class }
     requires some { 0 < length keys.now }
     requires keys { All (spec.FitsClass mapping.now class) keys.now }
-    requires ready { IsReady mapping.now.schema (K.moment keeper.old) }
+    requires ready { IsReady (K.moment keeper.old) }
     ensures step { (graph : Graph) → Runs (moment_beside K.moment) (λ rows. rows)
         (read mapping.now.schema (targets_select mapping.now class keys.now))
         (loading graph notes.old, keeper.old) result (loading graph notes.new, keeper.new) }
-    ensures stays { StaysReady mapping.now.schema result (K.moment keeper.new) }
+    ensures stays { StaysReady (K.moment keeper.old) result (K.moment keeper.new) }
     ensures rows { IfOk result (AllByRecursion (IsRowOf mapping.now class)) }
     ensures refuses { IfErr result (CanRefuseRows mapping.now) }
 {
@@ -90,7 +85,6 @@ fn take_targets(
     notes: &mut Notes,
 ) -> Result<(), Refusal>
     requires class { IsClass mapping.now class }
-    requires configured { mapping.now.configured ≡ true }
     requires fit { IsFit mapping.now arena.old }
     requires rows { AllByRecursion (IsRowOf mapping.now class) rows.now }
     ensures step { Runs alone (λ u. u) (spec.take_targets mapping.now class rows.now)
@@ -113,16 +107,15 @@ fn load_keys<K: Keeper>(
     keys: &[Key],
     notes: &mut Notes,
 ) -> Result<(), Refusal>
-    requires configured { mapping.now.configured ≡ true }
     requires fit { IsFit mapping.now arena.old }
     requires class { IsClass mapping.now class }
     requires keys { All (spec.FitsClass mapping.now class) keys.now }
-    requires ready { IsReady mapping.now.schema (K.moment keeper.old) }
+    requires ready { IsReady (K.moment keeper.old) }
     ensures step { Runs (moment_beside K.moment) (λ u. u)
         (spec.load_keys mapping.now class keys.now)
         (loading arena.old notes.old, keeper.old) result
         (loading arena.new notes.new, keeper.new) }
-    ensures stays { StaysReady mapping.now.schema result (K.moment keeper.new) }
+    ensures stays { StaysReady (K.moment keeper.old) result (K.moment keeper.new) }
     ensures grows { Grows arena.old arena.new }
     ensures fits { IsFit mapping.now arena.new }
     ensures refuses { IfErr result (CanRefuseRows mapping.now) }
@@ -146,16 +139,15 @@ fn load_each<K: Keeper>(
     starts: &[usize],
     notes: &mut Notes,
 ) -> Result<(), Refusal>
-    requires configured { mapping.now.configured ≡ true }
     requires fit { IsFit mapping.now arena.old }
     requires class { IsClass mapping.now class }
     requires keys { All (spec.FitsClass mapping.now class) keys.now }
-    requires ready { IsReady mapping.now.schema (K.moment keeper.old) }
+    requires ready { IsReady (K.moment keeper.old) }
     ensures step { Runs (moment_beside K.moment) (λ u. u)
         (spec.load_each mapping.now class keys.now starts.now)
         (loading arena.old notes.old, keeper.old) result
         (loading arena.new notes.new, keeper.new) }
-    ensures stays { StaysReady mapping.now.schema result (K.moment keeper.new) }
+    ensures stays { StaysReady (K.moment keeper.old) result (K.moment keeper.new) }
     ensures grows { Grows arena.old arena.new }
     ensures fits { IsFit mapping.now arena.new }
     ensures refuses { IfErr result (CanRefuseRows mapping.now) }
@@ -177,16 +169,15 @@ fn load_all<K: Keeper>(
     keys: &[Key],
     notes: &mut Notes,
 ) -> Result<(), Refusal>
-    requires configured { mapping.now.configured ≡ true }
     requires fit { IsFit mapping.now arena.old }
     requires class { IsClass mapping.now class }
     requires keys { All (spec.FitsClass mapping.now class) keys.now }
-    requires ready { IsReady mapping.now.schema (K.moment keeper.old) }
+    requires ready { IsReady (K.moment keeper.old) }
     ensures step { Runs (moment_beside K.moment) (λ u. u)
         (spec.load_all mapping.now class keys.now)
         (loading arena.old notes.old, keeper.old) result
         (loading arena.new notes.new, keeper.new) }
-    ensures stays { StaysReady mapping.now.schema result (K.moment keeper.new) }
+    ensures stays { StaysReady (K.moment keeper.old) result (K.moment keeper.new) }
     ensures grows { Grows arena.old arena.new }
     ensures fits { IsFit mapping.now arena.new }
     ensures refuses { IfErr result (CanRefuseRows mapping.now) }
@@ -215,17 +206,16 @@ fn load_unloaded<K: Keeper>(
     place: RelNo,
     notes: &mut Notes,
 ) -> Result<(), Refusal>
-    requires configured { mapping.now.configured ≡ true }
     requires fit { IsFit mapping.now arena.old }
     requires related { IsRelated mapping.now relation.now }
     requires one { relation.now.many ≡ false }
     requires owners { All (spec.IsChild mapping.now arena.old relation.now place) owners.now }
-    requires ready { IsReady mapping.now.schema (K.moment keeper.old) }
+    requires ready { IsReady (K.moment keeper.old) }
     ensures step { Runs (moment_beside K.moment) (λ u. u)
         (spec.load_unloaded mapping.now relation.now place arena.old owners.now)
         (loading arena.old notes.old, keeper.old) result
         (loading arena.new notes.new, keeper.new) }
-    ensures stays { StaysReady mapping.now.schema result (K.moment keeper.new) }
+    ensures stays { StaysReady (K.moment keeper.old) result (K.moment keeper.new) }
     ensures grows { Grows arena.old arena.new }
     ensures fits { IsFit mapping.now arena.new }
     ensures refuses { IfErr result (CanRefuseRows mapping.now) }
@@ -240,7 +230,7 @@ fn load_unloaded<K: Keeper>(
         keys.as_slice(),
         notes,
     )?;
-    fill_owners(alloc, arena, mapping, relation, place, owners, notes)
+    Ok(fill_owners(alloc, arena, mapping, relation, place, owners, notes)?)
 }
 
 /// Loads the links of objects at the place of a many-to-one relationship: those that are unloaded lead to the object of the class,
@@ -261,17 +251,16 @@ pub fn load_ends<K: Keeper>(
     place: RelNo,
     notes: &mut Notes,
 ) -> Result<(), Refusal>
-    requires configured { mapping.now.configured ≡ true }
     requires fit { IsFit mapping.now arena.old }
     requires related { IsRelated mapping.now relation.now }
     requires one { relation.now.many ≡ false }
     requires owners { All (spec.IsChild mapping.now arena.old relation.now place) owners.now }
-    requires ready { IsReady mapping.now.schema (K.moment keeper.old) }
+    requires ready { IsReady (K.moment keeper.old) }
     ensures step { Runs (moment_beside K.moment) (λ u. u)
         (spec.load_ends mapping.now relation.now place owners.now)
         (loading arena.old notes.old, keeper.old) result
         (loading arena.new notes.new, keeper.new) }
-    ensures stays { StaysReady mapping.now.schema result (K.moment keeper.new) }
+    ensures stays { StaysReady (K.moment keeper.old) result (K.moment keeper.new) }
     ensures grows { Grows arena.old arena.new }
     ensures fits { IsFit mapping.now arena.new }
     ensures refuses { IfErr result (CanRefuseRows mapping.now) }

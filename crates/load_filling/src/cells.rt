@@ -1,15 +1,15 @@
 //! The expired cells of an object hold what a load found of them.
 
-ghost use Rattle.std.specs.Prelude.{◌≡◌, Some, is_none, length, IfErr, IfOk, OnErr, OnOk};
+ghost use Rattle.std.specs.Prelude.{◌≡◌, Some, is_none, length, IfOk, OnErr, OnOk};
 ghost use Rattle.std.specs.Option.{option_copied};
-ghost use Rattle.base_core.specs.declared.refusal.Refusal.TheVariants.{Memory};
 ghost use Rattle.object_arena.specs.Fit.{KeepsWith};
 ghost use Rattle.object_arena.specs.Graph.{IsCell, IsObject, cell_at, object_at, with_cell};
 ghost use Rattle.load_filling.specs.Filled as spec;
 
-use base_core::{AttrNo, Copied, ObjId, Refusal, Value};
+use base_core::{AttrNo, Copied, ObjId, Value};
 use class_layouts::number_of;
 use object_arena::{Arena, Cell, CellRead};
+use std::alloc::AllocError;
 
 /// The value that was found at a place, if there is one.
 fn value_found(found: &[Option<Value>], place: usize) -> Option<&Value>
@@ -22,10 +22,9 @@ fn value_found(found: &[Option<Value>], place: usize) -> Option<&Value>
 }
 
 /// A cell that holds what was read.
-fn read_cell(value: &Value) -> Result<Cell, Refusal>
-    ensures cell { IfOk result
+fn read_cell(value: &Value) -> Result<Cell, AllocError>
+    ensures { IfOk result
         (λ cell. cell ≡ record { value = Some value.now; base = Some value.now }) }
-    ensures cause { IfErr result (λ e. e ≡ Memory) }
 {
     let held = value.copied()?;
     let base = value.copied()?;
@@ -53,12 +52,11 @@ fn fill_cell(
     object: ObjId,
     attr: AttrNo,
     found: &[Option<Value>],
-) -> Result<(), Refusal>
+) -> Result<(), AllocError>
     requires object { IsObject arena.old object }
     requires attr { IsCell arena.old object attr }
     ensures filled { OnOk result (arena.new ≡ with_cell arena.old object attr
         (spec.filled_cell found.now (attr.0, cell_at arena.old object attr))) }
-    ensures cause { IfErr result (λ e. e ≡ Memory) }
     ensures unchanged { OnErr result (arena.new ≡ arena.old) }
     ensures keeps { KeepsWith (spec.AreFoundFor (object_at arena.old object).class found.now)
         arena.old arena.new }
@@ -69,7 +67,8 @@ fn fill_cell(
     match value_found(found, attr.0 as usize) {
         Some(value) => {
             let cell = read_cell(value)?;
-            arena.put_cell(object, attr, cell)
+            arena.put_cell(object, attr, cell);
+            Ok(())
         }
         None => Ok(()),
     }
@@ -83,12 +82,11 @@ fn cell_count(arena: &Arena, object: ObjId) -> usize
     arena.object(object).cells.len()
 }
 
-/// The expired cells of an object hold what was found of them: the cell at a place the value there, if there is one. The only
-/// refusal is `Memory`, which leaves the cells before a place filled, and the others as they were.
-pub fn fill(arena: &mut Arena, object: ObjId, found: &[Option<Value>]) -> Result<(), Refusal>
+/// The expired cells of an object hold what was found of them: the cell at a place the value there, if there is one. Where
+/// memory runs out it leaves the cells before a place filled, and the others as they were.
+pub fn fill(arena: &mut Arena, object: ObjId, found: &[Option<Value>]) -> Result<(), AllocError>
     requires { IsObject arena.old object }
     ensures filled { OnOk result (arena.new ≡ spec.with_filled arena.old object found.now) }
-    ensures cause { IfErr result (λ e. e ≡ Memory) }
     ensures left { OnErr result
         (spec.IsFilledInPart arena.old object found.now arena.new) }
     ensures keeps { KeepsWith (spec.AreFoundFor (object_at arena.old object).class found.now)

@@ -42,7 +42,6 @@ pub fn load_object(
     key: Key,
 ) -> Result<ObjId, Refusal>
     requires declared { IsClass mapping.now class }
-    requires configured { mapping.now.configured ≡ true }
     requires key { key_fits mapping.now class key ≡ true }
     requires free { find_identity arena.old (root_of mapping.now class) key ≡ None }
     ensures step { Takes (λ object. object)

@@ -1,10 +1,9 @@
 //! What a row of a class's attributes tells: its key, its class, and the object that stands for it.
 
-ghost use Rattle.std.specs.Prelude.{◌≡◌, ◌&&◌, true, filter, find, IfErr, IfOk, IfSome};
+ghost use Rattle.std.specs.Prelude.{◌≡◌, ◌&&◌, true, filter, find, IfOk, IfSome};
 ghost use Rattle.std.specs.List.{position};
 ghost use Rattle.std.specs.Option.{option_copied};
 ghost use Rattle.base_core.specs.Answers.{Takes};
-ghost use Rattle.base_core.specs.declared.refusal.Refusal.TheVariants.{Memory};
 ghost use Rattle.class_mapping.specs.Mapped.{IsClass, root_of};
 ghost use Rattle.class_mapping.specs.Paired.{HasPairs, is_at_or_under};
 ghost use Rattle.object_arena.specs.Fit.{IsFit};
@@ -22,11 +21,10 @@ use base_core::{
 use class_layouts::has_class;
 use class_mapping::{Attribute, Mapping};
 use object_arena::Arena;
-use std::alloc::Global;
+use std::alloc::{AllocError, Global};
 
-fn value_in(values: &[Value], attr: AttrNo) -> Result<Value, Refusal>
-    ensures value { IfOk result (λ value. value ≡ spec.value_in values.now attr) }
-    ensures cause { IfErr result (λ e. e ≡ Memory) }
+fn value_in(values: &[Value], attr: AttrNo) -> Result<Value, AllocError>
+    ensures { IfOk result (λ value. value ≡ spec.value_in values.now attr) }
 {
     match values.get(attr.0 as usize) {
         Some(value) => Ok(value.copied()?),
@@ -34,17 +32,15 @@ fn value_in(values: &[Value], attr: AttrNo) -> Result<Value, Refusal>
     }
 }
 
-/// The key in a row. The only refusal is `Memory`.
+/// The key in a row.
 pub fn row_key(
     alloc: Global,
     mapping: &Mapping,
     class: ClassId,
     values: &[Value],
-) -> Result<Key, Refusal>
+) -> Result<Key, AllocError>
     requires class { IsClass mapping.now class }
-    requires configured { mapping.now.configured ≡ true }
-    ensures key { IfOk result (λ key. key ≡ spec.row_key mapping.now class values.now) }
-    ensures cause { IfErr result (λ e. e ≡ Memory) }
+    ensures { IfOk result (λ key. key ≡ spec.row_key mapping.now class values.now) }
 {
     let mut key = ListOf::new(alloc);
     let attrs = mapping.key_attributes(class);
@@ -69,7 +65,6 @@ fn value_named<'a>(
     name: &Name,
 ) -> Option<&'a Value>
     requires class { IsClass mapping.now class }
-    requires configured { mapping.now.configured ≡ true }
     ensures { option_copied result ≡ spec.value_named mapping.now class values.now name.now }
 {
     let table = mapping.root_table(class);
@@ -137,13 +132,12 @@ fn found_at_or_under(mapping: &Mapping, class: ClassId, found: Option<&Value>) -
 #[tactic(auto, unfolding(crate::specs::Rows::class_named))]
 pub fn class_named(mapping: &Mapping, class: ClassId, values: &[Value]) -> Option<ClassId>
     requires class { IsClass mapping.now class }
-    requires configured { mapping.now.configured ≡ true }
     ensures named { result ≡ spec.class_named mapping.now class values.now }
     ensures declared { IfSome result (IsClass mapping.now) }
     ensures rooted { IfSome result
         (λ named. root_of mapping.now named ≡ root_of mapping.now class) }
 {
-    let _configured = mapping.is_configured();
+    let _configured = mapping.schema();
     let root = mapping.root_of(class);
     match &mapping.spec_of(root).discriminator {
         Some(name) => {
@@ -168,7 +162,6 @@ pub fn row_object(
     values: &[Value],
 ) -> Result<ObjId, Refusal>
     requires class { IsClass mapping.now class }
-    requires configured { mapping.now.configured ≡ true }
     requires key { spec.HasKeyOf mapping.now class values.now }
     ensures step { Takes (λ object. object)
         (spec.row_object mapping.now class values.now arena.old) arena.old result arena.new }

@@ -1,7 +1,7 @@
 //! The mapping that lines declare.
 
 use base_core::Refusal;
-use class_mapping::Mapping;
+use class_mapping::{Declarations, Mapping};
 use class_types::Hooks;
 use notations::parted;
 use script_read::read_line;
@@ -24,32 +24,31 @@ fn take_all(alloc: Global, block: &mut Block, lines: &str) -> Result<(), Refusal
 fn declare(
     alloc: Global,
     hooks: &Hooks,
-    mapping: &mut Mapping,
+    declarations: &mut Declarations,
     lines: &str,
 ) -> Result<(), Refusal> {
     let (head, lines) = parted(lines, ';');
     let head = read_line(alloc, head.as_bytes(), 1, Inside::Top)?;
     let mut block = Block::of_head(alloc, head, 1)?;
     take_all(alloc, &mut block, lines)?;
-    block.declare(hooks, mapping)
+    block.declare(hooks, declarations)
 }
 
-/// Declares what blocks of lines with `;` between them say, and configures the mapping. The last line of each block is `end`.
-pub fn declare_all(
-    alloc: Global,
-    hooks: &Hooks,
-    mapping: &mut Mapping,
-    lines: &str,
-) -> Result<(), Refusal> {
+/// The mapping of what blocks of lines with `;` between them declare. The last line of each block is `end`.
+pub fn declare_all(alloc: Global, hooks: &Hooks, lines: &str) -> Result<Mapping, Refusal> {
+    let mut declarations = Declarations::new(alloc);
     for block in lines.split(";end") {
         if !block.is_empty() {
             declare(
                 alloc,
                 hooks,
-                mapping,
+                &mut declarations,
                 block.strip_prefix(';').unwrap_or(block),
             )?;
         }
     }
-    mapping.configure()
+    match declarations.configure() {
+        Ok(mapping) => Ok(mapping),
+        Err(refused) => Err(refused.refusal),
+    }
 }

@@ -20,7 +20,6 @@ pub fn is_made(arena: &Arena, object: ObjId) -> bool
 
 /// A persistent object of a class under a key that no other has: its cells are expired, and its links unloaded.
 fn hold(page: &mut Page, mapping: &Mapping, arena: &mut Arena, words: &str) -> Result<(), Refusal>
-    requires configured { mapping.now.configured ≡ true }
     requires fit { IsFit mapping.now arena.old }
     ensures { IsFit mapping.now arena.new }
 {
@@ -60,7 +59,6 @@ fn set(
     words: &str,
     is_written: bool,
 ) -> Result<(), Refusal>
-    requires configured { mapping.now.configured ≡ true }
     requires fit { IsFit mapping.now arena.old }
     ensures { IsFit mapping.now arena.new }
 {
@@ -80,7 +78,8 @@ fn set(
     if !cell_fits(&attributes[at], &cell) {
         return Err(Refusal::NotBuilt);
     }
-    arena.put_cell(object, attr, cell)
+    arena.put_cell(object, attr, cell);
+    Ok(())
 }
 
 /// Objects with commas between them; there may be none.
@@ -105,7 +104,6 @@ fn link_of(page: &mut Page, words: &str) -> Link {
 
 /// An unloaded collection of an object keeps changes.
 fn keep(page: &mut Page, mapping: &Mapping, arena: &mut Arena, words: &str) -> Result<(), Refusal>
-    requires configured { mapping.now.configured ≡ true }
     requires fit { IsFit mapping.now arena.old }
     ensures { IsFit mapping.now arena.new }
 {
@@ -125,7 +123,8 @@ fn keep(page: &mut Page, mapping: &Mapping, arena: &mut Arena, words: &str) -> R
     if !link_fits(arena, mapping, &relations[at], &link) {
         return Err(Refusal::NotBuilt);
     }
-    arena.put_link(object, place, link)
+    arena.put_link(object, place, link);
+    Ok(())
 }
 
 /// Puts objects as an act says.
@@ -136,7 +135,6 @@ pub fn put(
     letter: &str,
     words: &str,
 ) -> Result<(), Refusal>
-    requires configured { mapping.now.configured ≡ true }
     requires fit { IsFit mapping.now arena.old }
     ensures { IsFit mapping.now arena.new }
 {

@@ -9,15 +9,13 @@ ghost use Rattle.load_lines.specs.Opened.{IsOpen};
 use base_core::{ListOf, Refusal, TableId};
 use keeper_core::{Keeper, Target, calls};
 use notations::{Page, parted};
-use plan_statements::fits_schema;
-use schema_core::{RowStmt, Schema};
+use schema_core::{RowStmt, Schema, is_well_formed};
 use std::alloc::Global;
 
-fn attach<K: Keeper>(alloc: Global, keeper: &mut K, schema: &Schema) -> Result<(), Refusal>
+fn attach<K: Keeper>(alloc: Global, keeper: &mut K) -> Result<(), Refusal>
     requires { (K.moment keeper.old).target ≡ None }
-    ensures { OnOk result (IsOpen schema.now 0 (K.moment keeper.new)) }
+    ensures { OnOk result (IsOpen 0 (K.moment keeper.new)) }
 {
-    let _ = schema.count();
     match keeper.attach(alloc, Target::Memory) {
         Ok(()) => Ok(()),
         Err(_stop) => Err(Refusal::Memory),
@@ -31,8 +29,8 @@ fn create<K: Keeper>(
     table: TableId,
 ) -> Result<(), Refusal>
     requires declared { IsTable schema.now table }
-    requires held { IsOpen schema.now 0 (K.moment keeper.old) }
-    ensures { OnOk result (IsOpen schema.now 0 (K.moment keeper.new)) }
+    requires held { IsOpen 0 (K.moment keeper.old) }
+    ensures { OnOk result (IsOpen 0 (K.moment keeper.new)) }
 {
     match calls::create(alloc, keeper, schema, table) {
         Ok(_is_new) => Ok(()),
@@ -41,8 +39,8 @@ fn create<K: Keeper>(
 }
 
 fn create_all<K: Keeper>(alloc: Global, keeper: &mut K, schema: &Schema) -> Result<(), Refusal>
-    requires { IsOpen schema.now 0 (K.moment keeper.old) }
-    ensures { OnOk result (IsOpen schema.now 0 (K.moment keeper.new)) }
+    requires { IsOpen 0 (K.moment keeper.old) }
+    ensures { OnOk result (IsOpen 0 (K.moment keeper.new)) }
 {
     for number in 0..schema.count() {
         create(alloc, keeper, schema, TableId(number))?;
@@ -50,15 +48,14 @@ fn create_all<K: Keeper>(alloc: Global, keeper: &mut K, schema: &Schema) -> Resu
     Ok(())
 }
 
-fn begin<K: Keeper>(alloc: Global, keeper: &mut K, schema: &Schema) -> Result<(), Refusal>
-    requires { IsOpen schema.now 0 (K.moment keeper.old) }
-    ensures { OnOk result (IsOpen schema.now 1 (K.moment keeper.new)) }
+fn begin<K: Keeper>(alloc: Global, keeper: &mut K) -> Result<(), Refusal>
+    requires { IsOpen 0 (K.moment keeper.old) }
+    ensures { OnOk result (IsOpen 1 (K.moment keeper.new)) }
 {
-    let _ = schema.count();
     calls::begin(alloc, keeper)
 }
 
-/// The statement that puts in the row that words say, where it fits its table.
+/// The statement that puts in the row that words say, where it is well formed.
 fn insert_of(page: &mut Page, schema: &Schema, words: &str) -> Result<RowStmt, Refusal>
     ensures { IfOk result (IsWellFormed schema.now) }
 {
@@ -68,7 +65,7 @@ fn insert_of(page: &mut Page, schema: &Schema, words: &str) -> Result<RowStmt, R
     page.add(&mut rows, row);
     let table = page.table_of(schema, table);
     let statement = RowStmt::Insert { table, rows };
-    if !fits_schema(schema, &statement) {
+    if !is_well_formed(schema, &statement) {
         return Err(Refusal::NotBuilt);
     }
     Ok(statement)
@@ -80,8 +77,8 @@ fn insert<K: Keeper>(
     schema: &Schema,
     words: &str,
 ) -> Result<(), Refusal>
-    requires { IsOpen schema.now 1 (K.moment keeper.old) }
-    ensures { OnOk result (IsOpen schema.now 1 (K.moment keeper.new)) }
+    requires { IsOpen 1 (K.moment keeper.old) }
+    ensures { OnOk result (IsOpen 1 (K.moment keeper.new)) }
 {
     let statement = insert_of(page, schema, words)?;
     match calls::write(page.alloc(), keeper, schema, &statement) {
@@ -96,8 +93,8 @@ fn insert_all<K: Keeper>(
     schema: &Schema,
     rows: &str,
 ) -> Result<(), Refusal>
-    requires { IsOpen schema.now 1 (K.moment keeper.old) }
-    ensures { OnOk result (IsOpen schema.now 1 (K.moment keeper.new)) }
+    requires { IsOpen 1 (K.moment keeper.old) }
+    ensures { OnOk result (IsOpen 1 (K.moment keeper.new)) }
 {
     for words in rows.split(';') {
         if !words.is_empty() {
@@ -115,11 +112,11 @@ pub fn fill<K: Keeper>(
     rows: &str,
 ) -> Result<(), Refusal>
     requires { (K.moment keeper.old).target ≡ None }
-    ensures { OnOk result (IsReady schema.now (K.moment keeper.new)) }
+    ensures { OnOk result (IsReady (K.moment keeper.new)) }
 {
     let alloc = page.alloc();
-    attach(alloc, keeper, schema)?;
+    attach(alloc, keeper)?;
     create_all(alloc, keeper, schema)?;
-    begin(alloc, keeper, schema)?;
+    begin(alloc, keeper)?;
     insert_all(page, keeper, schema, rows)
 }

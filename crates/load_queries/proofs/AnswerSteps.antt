@@ -1,5 +1,5 @@
 -- The objects of a query with its joined options, put together of the parts of the load.
-use Rattle.std.proofs.Common.{◌≡◌, ℕ, ◌<◌, true, List, [], ◌∷◌, length, map, Result, Ok, Err, IfErr, IfOk, refl, sym, ap, subst, ◌∙◌}
+use Rattle.std.proofs.Common.{◌≡◌, ℕ, ◌<◌, true, List, [], ◌∷◌, length, map, Result, Ok, Err, IfOk, refl, sym, subst, ◌∙◌}
 use Rattle.std.specs.List.{All, AllByRecursion}
 use Rattle.std.proofs.lemmas.List.Elements.{All-from_recursion, All-map, recursion_from_All}
 use Rattle.base_core.specs.declared.ids.ClassId.{ClassId}
@@ -7,7 +7,6 @@ use Rattle.base_core.specs.declared.ids.ObjId.{ObjId}
 use Rattle.base_core.specs.declared.ids.RelNo.{RelNo}
 use Rattle.base_core.specs.declared.value.Value.{Value}
 use Rattle.base_core.specs.declared.refusal.Refusal.{Refusal}
-use Rattle.base_core.specs.declared.refusal.Refusal.TheVariants.{Memory}
 use Rattle.expr_types.specs.declared.select.ObjectQuery.{ObjectQuery}
 use Rattle.expr_types.specs.declared.select.Select.{Select}
 use Rattle.sql_semantics.specs.Shapes.{AreGiven, AreOfItems}
@@ -28,7 +27,6 @@ use Rattle.main_selects.specs.MainSelect.{main_select}
 use Rattle.joined_rows.specs.declared.parts.Part.{Part}
 use Rattle.joined_rows.specs.Parts.{IsJoinedRow, part_at, parts_from, parts_of, width_of}
 use Rattle.load_calls.specs.Reading.{read}
-use Rattle.load_queries.specs.Queries.{firsts}
 use Rattle.load_queries.proofs.FirstSteps.{firsts_all}
 use Rattle.object_parts.specs.declared.answers.Taken.{Taken}
 use Rattle.joined_rows.specs.Taking.{IsTaken, take_joined}
@@ -49,7 +47,7 @@ every_target mapped class first (place ∷ places) related less h =
     ((related.each class less place.0 no_relation h.0).target, every_target mapped class (part_at mapped class place first).end places related less h.1)
 
 -- each is that of a relationship
-pub parts_told : (mapped : Mapped) (class : ClassId) (places : List RelNo) (r : Result (List Part) Refusal) → All (λ (place : RelNo). place.0 < length (relations_of mapped class)) places → IfOk r (λ parts. parts ≡ parts_of mapped class places) → IfOk r (All (IsPartOf mapped class))
+pub parts_told : {E : Type 0} (mapped : Mapped) (class : ClassId) (places : List RelNo) (r : Result (List Part) E) → All (λ (place : RelNo). place.0 < length (relations_of mapped class)) places → IfOk r (λ parts. parts ≡ parts_of mapped class places) → IfOk r (All (IsPartOf mapped class))
 unfolding parts_of
 parts_told mapped class places (Ok parts) inside are =
     subst (All (IsPartOf mapped class)) (sym are)
@@ -57,7 +55,7 @@ parts_told mapped class places (Ok parts) inside are =
 parts_told mapped class places (Err e) inside are = tt
 
 -- which leads to a class that is declared
-pub targets_told : (mapped : Mapped) (class : ClassId) (places : List RelNo) (r : Result (List Part) Refusal) → AreRelated mapped → IsClass mapped class → All (λ (place : RelNo). place.0 < length (relations_of mapped class)) places → IfOk r (λ parts. parts ≡ parts_of mapped class places)
+pub targets_told : {E : Type 0} (mapped : Mapped) (class : ClassId) (places : List RelNo) (r : Result (List Part) E) → AreRelated mapped → IsClass mapped class → All (λ (place : RelNo). place.0 < length (relations_of mapped class)) places → IfOk r (λ parts. parts ≡ parts_of mapped class places)
     → IfOk r (All (λ part. IsClass mapped part.target))
 unfolding parts_of
 targets_told mapped class places (Ok parts) related less inside are =
@@ -66,7 +64,7 @@ targets_told mapped class places (Ok parts) related less inside are =
     (All-from_recursion declared (parts_from mapped class (width_of mapped class) places) (every_target mapped class (width_of mapped class) places related less (recursion_from_All (λ (place : RelNo). place.0 < length (relations_of mapped class)) places inside)))
 targets_told mapped class places (Err e) related less inside are = tt
 
-pub seen_parts : (mapped : Mapped) (class : ClassId) (places shown : List RelNo) (r : Result (List Part) Refusal) → shown ≡ places → IfOk r (λ parts. parts ≡ parts_of mapped class shown) → IfOk r (λ parts. parts ≡ parts_of mapped class places)
+pub seen_parts : {E : Type 0} (mapped : Mapped) (class : ClassId) (places shown : List RelNo) (r : Result (List Part) E) → shown ≡ places → IfOk r (λ parts. parts ≡ parts_of mapped class shown) → IfOk r (λ parts. parts ≡ parts_of mapped class places)
 seen_parts mapped class places shown r seen are = subst (λ (xs : List RelNo). IfOk r (λ parts. parts ≡ parts_of mapped class xs)) seen are
 
 -- ---- the rows

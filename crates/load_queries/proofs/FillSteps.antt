@@ -1,5 +1,5 @@
 -- The links of owners, filled with what they are given.
-use Rattle.std.proofs.Common.{◌≡◌, ℕ, ◌+◌, ◌<◌, ◌≤◌, Bool, true, false, List, [], ◌∷◌, ◌++◌, length, get_or, drop, cond, filter, Option, None, Some, Result, Ok, Err, IfErr, OnOk, refl, sym, ap, subst, ◌∙◌, append-nil}
+use Rattle.std.proofs.Common.{◌≡◌, ℕ, ◌+◌, ◌<◌, ◌≤◌, Bool, true, false, List, [], ◌∷◌, ◌++◌, length, get_or, drop, cond, Option, Some, Result, Ok, Err, OnOk, refl, sym, ap, subst, ◌∙◌, append-nil}
 use Rattle.std.specs.Prelude.{slice_get}
 use Rattle.std.specs.List.{All, AllByRecursion, enumerate_from}
 use Rattle.std.proofs.lemmas.List.{drop_all}
@@ -9,20 +9,18 @@ use Rattle.base_core.specs.declared.ids.ClassId.{ClassId}
 use Rattle.base_core.specs.declared.ids.ObjId.{ObjId}
 use Rattle.base_core.specs.declared.ids.RelNo.{RelNo}
 use Rattle.base_core.specs.declared.refusal.Refusal.{Refusal}
-use Rattle.base_core.specs.declared.refusal.Refusal.TheVariants.{Memory}
-use Rattle.class_types.specs.declared.mapped.Relation.{Relation}
 use Rattle.class_layouts.proofs.Steps.{numbered_at}
 use Rattle.class_mapping.specs.Mapped.{Mapped, relations_of, root_of}
 use Rattle.class_mapping.specs.Paired.{IsAt, is_at_or_under}
 use Rattle.mapping_laws.specs.Hierarchies.{HasHierarchies}
 use Rattle.object_arena.specs.Every.{classes_of}
 use Rattle.object_arena.specs.Fit.{end_fits, is_of_root, no_relation, relation_of}
-use Rattle.object_arena.specs.Graph.{Graph, IsObject, object_at}
+use Rattle.object_arena.specs.Graph.{Graph, IsObject}
 use Rattle.relations.specs.Mirror.{is_of}
 use Rattle.keeper_core.specs.Alone.{alone}
 use Rattle.keeper_core.specs.Moment.{Reaches, Runs}
 use Rattle.keeper_core.specs.Programs.{each}
-use Rattle.keeper_core.proofs.AloneLemmas.{alone_same, change_ok, lost_alone}
+use Rattle.keeper_core.proofs.AloneLemmas.{alone_same, change_ok}
 use Rattle.keeper_core.proofs.Sequence.{done, reaches_end, reaches_more, reaches_start, then_err}
 use Rattle.load_filling.specs.Growing.{Grows}
 use Rattle.load_filling.proofs.LoadedLemmas.{grows_same}
@@ -33,7 +31,9 @@ use Rattle.joined_rows.specs.declared.parts.Part.{Part}
 use Rattle.load_calls.proofs.CollectionLemmas.{class_there, owner_there}
 use Rattle.object_parts.specs.declared.answers.Taken.{Taken}
 use Rattle.joined_rows.specs.Taking.{IsTaken}
-use Rattle.load_queries.specs.Joined.{GiveMembers, IsOwner, fill_option, fill_options, fill_owner, fill_owners, given_to, is_many, link_filled, owners_among}
+use Rattle.load_queries.specs.Joined.{GiveMembers, HasGiven, IsOwner, IsPartOf, fill_option, fill_options, fill_owner, fill_owners, given_to, is_many, link_filled, objects_at, owners_among}
+use Rattle.load_queries.proofs.GivenSteps.{given_all}
+use Rattle.std.specs.BTreeMap.{BTreeMap}
 
 -- ---- owners
 
@@ -107,23 +107,29 @@ first_fits roots root given all = by given (recursion_from_All (λ object. is_of
     by [] h = refl
     by (object ∷ objects) h = h.0
 
-pub filled_many : (mapped : Mapped) (class : ClassId) (owner : ObjId) (place : RelNo) (given : List ObjId) (old now : Loading) (r : Result (Unit {0}) Refusal) → is_many mapped class place ≡ true
+pub filled_many : {E : Type 0} (mapped : Mapped) (class : ClassId) (owner : ObjId) (place : RelNo) (given : List ObjId) (old now : Loading) (r : Result (Unit {0}) E) → is_many mapped class place ≡ true
     → OnOk r (now ≡ collection_filled owner place given old) → OnOk r (now ≡ link_filled (is_many mapped class place) owner place given old)
 filled_many mapped class owner place given old now r many is = subst (λ (b : Bool). OnOk r (now ≡ link_filled b owner place given old)) (sym many) is
 
-pub filled_one : (mapped : Mapped) (class : ClassId) (owner : ObjId) (place : RelNo) (given : List ObjId) (end : Option ObjId) (old now : Loading) (r : Result (Unit {0}) Refusal) → is_many mapped class place ≡ false → end ≡ slice_get given 0
+pub filled_one : {E : Type 0} (mapped : Mapped) (class : ClassId) (owner : ObjId) (place : RelNo) (given : List ObjId) (end : Option ObjId) (old now : Loading) (r : Result (Unit {0}) E) → is_many mapped class place ≡ false → end ≡ slice_get given 0
     → OnOk r (now ≡ end_filled owner place end old) → OnOk r (now ≡ link_filled (is_many mapped class place) owner place given old)
 filled_one mapped class owner place given end old now r many first is =
     subst (λ (b : Bool). OnOk r (now ≡ link_filled b owner place given old)) (sym many) (subst (λ (e : Option ObjId). OnOk r (now ≡ end_filled owner place e old)) first is)
 
 -- ---- the links of owners
 
+-- what an owner is given are objects of the target's hierarchy
+pub link_fits : (mapped : Mapped) (roots : List ClassId) (class : ClassId) (number : ℕ) (part : Part) (taken : List Taken) (given : BTreeMap ℕ (List ObjId)) (owner : ObjId) (objects : List ObjId) → HasGiven number taken given → IsPartOf mapped class part
+    → GiveMembers mapped roots (number, part) taken → objects ≡ objects_at given owner.0 → All (λ object. is_of_root roots (root_of mapped (relation_of mapped class part.place).target) object ≡ true) objects
+link_fits mapped roots class number part taken given owner objects has of give is =
+    subst (λ (found : List ObjId). All (λ object. is_of_root roots (root_of mapped (relation_of mapped class part.place).target) object ≡ true) found) (sym (is ∙ has.same owner))
+    (subst (λ (target : ClassId). All (λ object. is_of_root roots (root_of mapped target) object ≡ true) (given_to number taken owner)) of.target (given_all mapped roots number part taken owner give))
+
 -- one was filled with what its owner is given
-pub owner_filled : (mapped : Mapped) (class : ClassId) (taken : List Taken) (number : ℕ) (part : Part) (owner : ObjId) (given : List ObjId) (old now : Loading) (r : Result (Unit {0}) Refusal) → given ≡ given_to number taken owner
-    → OnOk r (now ≡ link_filled (is_many mapped class part.place) owner part.place given old) → IfErr r (λ e. e ≡ Memory) → Runs alone (λ (u : Unit {0}). u) (fill_owner mapped class taken (number, part) owner tt) old r now
-owner_filled mapped class taken number part owner given old now (Ok u) mine is cause =
+pub owner_filled : (mapped : Mapped) (class : ClassId) (taken : List Taken) (number : ℕ) (part : Part) (owner : ObjId) (given : List ObjId) (old now : Loading) → given ≡ given_to number taken owner
+    → now ≡ link_filled (is_many mapped class part.place) owner part.place given old → Runs alone (λ (u : Unit {0}). u) (fill_owner mapped class taken (number, part) owner tt) old (Ok tt) now
+owner_filled mapped class taken number part owner given old now mine is =
     change_ok (link_filled (is_many mapped class part.place) owner part.place (given_to number taken owner)) (is ∙ ap (λ (objects : List ObjId). link_filled (is_many mapped class part.place) owner part.place objects old) mine)
-owner_filled mapped class taken number part owner given old now (Err e) mine is cause = lost_alone cause
 
 pub owners_start : (mapped : Mapped) (class : ClassId) (taken : List Taken) (owners : List ObjId) (option : ℕ × Part) (own : Loading) → Reaches alone (fill_option mapped class taken owners option tt) own (each (fill_owner mapped class taken option) tt owners) own
 unfolding fill_option
@@ -173,8 +179,9 @@ options_done mapped class parts taken owners old now i left ended =
     (subst (λ (xs : List Part). Reaches alone (fill_options mapped class parts taken owners) old (each (fill_option mapped class taken owners) tt (enumerate_from i xs)) now) ended left) (done {v = λ (u : Unit {0}). u} refl)
 
 -- of the owners among objects
-pub owners_filled : (mapped : Mapped) (class : ClassId) (parts : List Part) (taken : List Taken) (objects owners shown : List ObjId) (own now : Loading) {r : Result (Unit {0}) Refusal} → owners ≡ owners_among mapped class own.graph objects → shown ≡ owners
-    → Runs alone (λ (u : Unit {0}). u) (fill_options mapped class parts taken shown) own r now → Runs alone (λ (u : Unit {0}). u) (fill_owners mapped class parts taken objects) own r now
+pub owners_filled : {E : Type 0} (mapped : Mapped) (class : ClassId) (parts : List Part) (taken : List Taken) (objects owners shown : List ObjId) (own now : Loading) (r : Result (Unit {0}) E) → owners ≡ owners_among mapped class own.graph objects → shown ≡ owners
+    → OnOk r (Runs alone (λ (u : Unit {0}). u) (fill_options mapped class parts taken shown) own (Ok tt) now) → OnOk r (Runs alone (λ (u : Unit {0}). u) (fill_owners mapped class parts taken objects) own (Ok tt) now)
 unfolding fill_owners
-owners_filled mapped class parts taken objects owners shown own now are seen p =
+owners_filled mapped class parts taken objects owners shown own now (Err e) are seen p = tt
+owners_filled mapped class parts taken objects owners shown own now (Ok u) are seen p =
     alone_same (fill_options mapped class parts taken shown) (fill_owners mapped class parts taken objects) (ap (λ (xs : List ObjId). fill_options mapped class parts taken xs own) (seen ∙ are)) p

@@ -20,8 +20,9 @@ use Rattle.keeper_core.specs.declared.notes.Note.{Note}
 use Rattle.load_rows.specs.Loading.{Loading, loading}
 use Rattle.load_batches.specs.Batches.{load_members}
 use Rattle.load_ends.specs.Ends.{load_ends}
+use Rattle.load_queries.specs.Joined.{load_joined}
 use Rattle.load_queries.specs.Queries.{load_select}
-use Rattle.load_queries.specs.Selectin.{load_objects, load_option, load_options, load_selectin, load_together, owners_among, with_options}
+use Rattle.load_queries.specs.Selectin.{load_objects, load_option, load_options, load_query, load_selectin, load_together, owners_among, with_options}
 
 -- a program of this result ran from there to here
 abbrev Loads : {K : Type 0} → (K → Moment Store) → (Beside Loading → Run (Beside Loading) (Unit {0})) → Loading × K → Result (Unit {0}) Refusal → Loading × K → Type 0
@@ -106,4 +107,31 @@ pub objects_loaded : {K : Type 0} (moment : K → Moment Store) (mapped : Mapped
     → Runs (moment_beside moment) (λ (xs : List ObjId). xs) (load_objects mapped query) (own, old) (Ok objects) (now, new)
 unfolding load_objects
 objects_loaded moment mapped query objects shown places {mid = mid} {now = now} {kept = kept} {new = new} seen named p q =
+    then_ok (with_options mapped query) p (then_ok (λ _. give objects) (as_named moment mapped query objects shown places seen named q) (done refl))
+
+-- ---- a query with options of both kinds
+
+-- its main select or one of its rows was refused
+pub whole_refused : {K : Type 0} (moment : K → Moment Store) (mapped : Mapped) (query : ObjectQuery) {own now : Loading} {old new : K} (e : Refusal)
+    → Runs (moment_beside moment) (λ (xs : List ObjId). xs) (load_joined mapped query) (own, old) (Err e) (now, new)
+    → Runs (moment_beside moment) (λ (xs : List ObjId). xs) (load_query mapped query) (own, old) (Err e) (now, new)
+unfolding load_query
+whole_refused moment mapped query e p = then_err (with_options mapped query) p
+
+-- a link's load behind it was refused
+pub further_refused : {K : Type 0} (moment : K → Moment Store) (mapped : Mapped) (query : ObjectQuery) (objects shown : List ObjId) (places : List RelNo) {own mid now : Loading} {old kept new : K} (e : Refusal) → shown ≡ objects → places ≡ query.selectin
+    → Runs (moment_beside moment) (λ (xs : List ObjId). xs) (load_joined mapped query) (own, old) (Ok objects) (mid, kept)
+    → Loads moment (load_options mapped query.class shown places) (mid, kept) (Err e) (now, new)
+    → Runs (moment_beside moment) (λ (xs : List ObjId). xs) (load_query mapped query) (own, old) (Err e) (now, new)
+unfolding load_query
+further_refused moment mapped query objects shown places {mid = mid} {now = now} {kept = kept} {new = new} e seen named p q =
+    then_ok (with_options mapped query) p (then_err (λ _. give objects) (as_named moment mapped query objects shown places seen named q))
+
+-- the objects and all their links were loaded
+pub whole_loaded : {K : Type 0} (moment : K → Moment Store) (mapped : Mapped) (query : ObjectQuery) (objects shown : List ObjId) (places : List RelNo) {own mid now : Loading} {old kept new : K} → shown ≡ objects → places ≡ query.selectin
+    → Runs (moment_beside moment) (λ (xs : List ObjId). xs) (load_joined mapped query) (own, old) (Ok objects) (mid, kept)
+    → Loads moment (load_options mapped query.class shown places) (mid, kept) (Ok tt) (now, new)
+    → Runs (moment_beside moment) (λ (xs : List ObjId). xs) (load_query mapped query) (own, old) (Ok objects) (now, new)
+unfolding load_query
+whole_loaded moment mapped query objects shown places {mid = mid} {now = now} {kept = kept} {new = new} seen named p q =
     then_ok (with_options mapped query) p (then_ok (λ _. give objects) (as_named moment mapped query objects shown places seen named q) (done refl))

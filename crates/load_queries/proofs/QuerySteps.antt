@@ -1,5 +1,5 @@
 -- The reading of the objects of a query, put together of its parts.
-use Rattle.std.proofs.Common.{◌≡◌, List, [], Result, Ok, Err, IfErr, IfOk, refl, sym, ap, subst, ◌∙◌}
+use Rattle.std.proofs.Common.{◌≡◌, List, [], Result, Ok, Err, IfErr, IfOk, sym, ap, subst, ◌∙◌}
 use Rattle.std.specs.List.{AllByRecursion}
 use Rattle.base_core.specs.declared.ids.ClassId.{ClassId}
 use Rattle.base_core.specs.declared.ids.ObjId.{ObjId}
@@ -40,11 +40,11 @@ query_rows mapped class s (Ok rows) has less reads kinds given =
 query_rows mapped class s (Err e) has less reads kinds given = tt
 
 -- the select of all rows of a class is plain, and reads its objects
-pub every_plain : (mapped : Mapped) (class : ClassId) (r : Result Select Refusal) → HasHierarchies mapped → IsClass mapped class → IfOk r (λ s. s ≡ class_rows mapped class []) → IfOk r (IsPlainSelect mapped.schema)
+pub every_plain : {E : Type 0} (mapped : Mapped) (class : ClassId) (r : Result Select E) → HasHierarchies mapped → IsClass mapped class → IfOk r (λ s. s ≡ class_rows mapped class []) → IfOk r (IsPlainSelect mapped.schema)
 every_plain mapped class (Ok s) has less made = subst (IsPlainSelect mapped.schema) (sym made) (rows_plain mapped class has less (class_tables mapped class has less) [] tt)
 every_plain mapped class (Err e) has less made = tt
 
-pub every_read : (mapped : Mapped) (class : ClassId) (r : Result Select Refusal) → HasHierarchies mapped → IsClass mapped class → IfOk r (λ s. s ≡ class_rows mapped class []) → IfOk r (ReadsObjects mapped class)
+pub every_read : {E : Type 0} (mapped : Mapped) (class : ClassId) (r : Result Select E) → HasHierarchies mapped → IsClass mapped class → IfOk r (λ s. s ≡ class_rows mapped class []) → IfOk r (ReadsObjects mapped class)
 every_read mapped class (Ok s) has less made =
     let reads = reads_rows mapped class [] has less in
     subst (ReadsObjects mapped class) (sym made) (record { more = reads.more; items = reads.items; sources = reads.sources })

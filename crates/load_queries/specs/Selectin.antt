@@ -6,7 +6,8 @@ use Rattle.base_core.specs.declared.ids.ObjId.{ObjId}
 use Rattle.base_core.specs.declared.ids.RelNo.{RelNo}
 use Rattle.expr_types.specs.declared.select.ObjectQuery.{ObjectQuery}
 use Rattle.class_types.specs.declared.mapped.Relation.{Relation}
-use Rattle.class_mapping.specs.Mapped.{Mapped, relations_of}
+use Rattle.sql_semantics.specs.Plain.{IsPlainSelect}
+use Rattle.class_mapping.specs.Mapped.{IsClass, Mapped, relations_of}
 use Rattle.class_mapping.specs.Paired.{is_at_or_under}
 use Rattle.object_arena.specs.declared.object.State.TheVariants.{Persistent}
 use Rattle.object_arena.specs.Fit.{relation_of}
@@ -14,10 +15,12 @@ use Rattle.object_arena.specs.Graph.{Graph, IsObject, is_persistent, object_at}
 use Rattle.keeper_core.specs.Programs.{Run, ◌>>=◌, each, give}
 use Rattle.keeper_core.specs.Beside.{by_own}
 use Rattle.relations.specs.Mirror.{is_of}
+use Rattle.main_selects.specs.MainSelect.{main_select}
 use Rattle.load_calls.specs.Reading.{World}
 use Rattle.load_batches.specs.Batches.{load_members}
 use Rattle.load_ends.specs.Ends.{load_ends}
-use Rattle.load_queries.specs.Queries.{load_select}
+use Rattle.load_queries.specs.Joined.{load_joined}
+use Rattle.load_queries.specs.Queries.{ReadsObjects, load_select}
 
 -- ---- owners
 
@@ -60,6 +63,15 @@ owners_among mapped class graph objects = flat_map (if_owner mapped class graph)
 abbrev pub IsOption : Mapped → ClassId → RelNo → Type 0
 IsOption mapped class place = place.0 < length (relations_of mapped class)
 
+-- Which queries can be answered with their options: these are relationships of its class, its select reads the objects of its class, and
+-- its main select is plain.
+pub record IsSelectable (mapped : Mapped) (query : ObjectQuery) : Type 0 where
+  pub class : IsClass mapped query.class
+  pub joined : All (IsOption mapped query.class) query.joined
+  pub selectin : All (IsOption mapped query.class) query.selectin
+  pub reads : ReadsObjects mapped query.class query.select
+  pub plain : IsPlainSelect mapped.schema (main_select mapped query)
+
 -- the links at the place of a relationship of the class, of those among the objects that have it
 abbrev pub load_option : Mapped → ClassId → List ObjId → RelNo → Unit {0} → World → Run World (Unit {0})
 load_option mapped class objects place u = by_own (λ own. load_together mapped (relation_of mapped class place) place (owners_among mapped class own.graph objects))
@@ -74,3 +86,7 @@ with_options mapped query objects = load_options mapped query.class objects quer
 -- the objects of a query, whose links at its places are loaded then
 unfoldable pub load_objects : Mapped → ObjectQuery → World → Run World (List ObjId)
 load_objects mapped query = load_select mapped query >>= with_options mapped query
+
+-- the objects of a query with what its joined options' links hold, and then the links at its other places
+unfoldable pub load_query : Mapped → ObjectQuery → World → Run World (List ObjId)
+load_query mapped query = load_joined mapped query >>= with_options mapped query

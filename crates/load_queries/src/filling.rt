@@ -1,8 +1,7 @@
 //! The filling of the links of joined options.
 
-ghost use Rattle.std.specs.Prelude.{◌≡◌, ◌<◌, true, length, slice_get, IfErr, OnOk};
+ghost use Rattle.std.specs.Prelude.{◌≡◌, ◌<◌, true, length, slice_get, Ok, OnOk};
 ghost use Rattle.std.specs.List.{All};
-ghost use Rattle.base_core.specs.declared.refusal.Refusal.TheVariants.{Memory};
 ghost use Rattle.class_mapping.specs.Mapped.{IsClass, relations_of, root_of};
 ghost use Rattle.object_arena.specs.Every.{classes_of};
 ghost use Rattle.object_arena.specs.Fit.{IsFit, is_of_root, relation_of};
@@ -12,17 +11,16 @@ ghost use Rattle.load_rows.specs.Loading.{loading};
 ghost use Rattle.joined_rows.specs.Taking.{IsTaken};
 ghost use Rattle.load_queries.specs.Joined as spec;
 
-use crate::given::{Given, given_by_rows, objects_at};
+use crate::given::{given_by_rows, objects_at};
 use crate::joined_owners::owners_among;
-use base_core::{ClassId, ObjId, Refusal, RelNo};
+use base_core::{ClassId, ObjId, RelNo};
 use class_mapping::Mapping;
 use joined_rows::Part;
 use keeper_core::Notes;
 use load_rows::{fill_collection, fill_end, relation_at};
-use mapping_laws::has_hierarchies;
 use object_arena::Arena;
 use object_parts::Taken;
-use std::alloc::Global;
+use std::alloc::{AllocError, Global};
 
 /// The first of what was given.
 fn first_of(given: &[ObjId]) -> Option<ObjId>
@@ -41,9 +39,8 @@ fn fill_link(
     owner: ObjId,
     given: &[ObjId],
     notes: &mut Notes,
-) -> Result<(), Refusal>
+) -> Result<(), AllocError>
     requires class { IsClass mapping.now class }
-    requires configured { mapping.now.configured ≡ true }
     requires fit { IsFit mapping.now arena.old }
     requires place { place.0 < length (relations_of mapping.now class) }
     requires owner { spec.IsOwner mapping.now arena.old class owner }
@@ -52,51 +49,15 @@ fn fill_link(
     ensures filled { OnOk result (loading arena.new notes.new
         ≡ spec.link_filled (spec.is_many mapping.now class place) owner place given.now
         (loading arena.old notes.old)) }
-    ensures cause { IfErr result (λ e. e ≡ Memory) }
     ensures fits { IsFit mapping.now arena.new }
     ensures classes { classes_of arena.new ≡ classes_of arena.old }
 {
-    has_hierarchies(mapping);
+    let _ = mapping.schema();
     let many = relation_at(mapping, class, place).many;
     if many {
         return fill_collection(alloc, arena, mapping, owner, place, given, notes);
     }
     fill_end(arena, mapping, owner, place, first_of(given), notes)
-}
-
-/// The link of an option, of one owner, holds what the rows give it.
-fn fill_owner(
-    alloc: Global,
-    arena: &mut Arena,
-    mapping: &Mapping,
-    class: ClassId,
-    number: usize,
-    part: Part,
-    taken: &[Taken],
-    given: &Given,
-    owner: ObjId,
-    notes: &mut Notes,
-) -> Result<(), Refusal>
-    requires class { IsClass mapping.now class }
-    requires configured { mapping.now.configured ≡ true }
-    requires fit { IsFit mapping.now arena.old }
-    requires part { spec.IsPartOf mapping.now class part }
-    requires given { spec.HasGiven number taken.now given.now }
-    requires of { spec.GiveMembers mapping.now arena.old.roots (number, part) taken.now }
-    requires owner { spec.IsOwner mapping.now arena.old class owner }
-    ensures step { Runs alone (λ u. u)
-        (spec.fill_owner mapping.now class taken.now (number, part) owner tt)
-        (loading arena.old notes.old) result (loading arena.new notes.new) }
-    ensures fits { IsFit mapping.now arena.new }
-    ensures classes { classes_of arena.new ≡ classes_of arena.old }
-    ensures cause { IfErr result (λ e. e ≡ Memory) }
-{
-    let _ = number;
-    let _ = taken;
-    let objects = objects_at(given, owner);
-    fill_link(
-        alloc, arena, mapping, class, part.place, owner, objects, notes,
-    )
 }
 
 /// The link of an option, of each owner.
@@ -111,24 +72,23 @@ fn fill_option(
     taken: &[Taken],
     owners: &[ObjId],
     notes: &mut Notes,
-) -> Result<(), Refusal>
+) -> Result<(), AllocError>
     requires class { IsClass mapping.now class }
-    requires configured { mapping.now.configured ≡ true }
     requires fit { IsFit mapping.now arena.old }
     requires part { spec.IsPartOf mapping.now class part }
     requires of { spec.GiveMembers mapping.now arena.old.roots (number, part) taken.now }
     requires owners { All (spec.IsOwner mapping.now arena.old class) owners.now }
-    ensures step { Runs alone (λ u. u)
+    ensures step { OnOk result (Runs alone (λ u. u)
         (spec.fill_option mapping.now class taken.now owners.now (number, part) tt)
-        (loading arena.old notes.old) result (loading arena.new notes.new) }
+        (loading arena.old notes.old) (Ok tt) (loading arena.new notes.new)) }
     ensures fits { IsFit mapping.now arena.new }
     ensures classes { classes_of arena.new ≡ classes_of arena.old }
-    ensures cause { IfErr result (λ e. e ≡ Memory) }
 {
     let given = given_by_rows(alloc, number, taken)?;
     for owner in owners {
-        fill_owner(
-            alloc, arena, mapping, class, number, part, taken, &given, *owner, notes,
+        let objects = objects_at(&given, *owner);
+        fill_link(
+            alloc, arena, mapping, class, part.place, *owner, objects, notes,
         )?;
     }
     Ok(())
@@ -145,19 +105,17 @@ fn fill_options(
     taken: &[Taken],
     owners: &[ObjId],
     notes: &mut Notes,
-) -> Result<(), Refusal>
+) -> Result<(), AllocError>
     requires class { IsClass mapping.now class }
-    requires configured { mapping.now.configured ≡ true }
     requires fit { IsFit mapping.now arena.old }
     requires parts { All (spec.IsPartOf mapping.now class) parts.now }
     requires taken { All (IsTaken mapping.now arena.old.roots class parts.now) taken.now }
     requires owners { All (spec.IsOwner mapping.now arena.old class) owners.now }
-    ensures step { Runs alone (λ u. u)
+    ensures step { OnOk result (Runs alone (λ u. u)
         (spec.fill_options mapping.now class parts.now taken.now owners.now)
-        (loading arena.old notes.old) result (loading arena.new notes.new) }
+        (loading arena.old notes.old) (Ok tt) (loading arena.new notes.new)) }
     ensures fits { IsFit mapping.now arena.new }
     ensures classes { classes_of arena.new ≡ classes_of arena.old }
-    ensures cause { IfErr result (λ e. e ≡ Memory) }
 {
     for (number, part) in parts.iter().enumerate() {
         fill_option(
@@ -177,20 +135,18 @@ pub(crate) fn fill_owners(
     taken: &[Taken],
     objects: &[ObjId],
     notes: &mut Notes,
-) -> Result<(), Refusal>
+) -> Result<(), AllocError>
     requires class { IsClass mapping.now class }
-    requires configured { mapping.now.configured ≡ true }
     requires fit { IsFit mapping.now arena.old }
     requires parts { All (spec.IsPartOf mapping.now class) parts.now }
     requires taken { All (IsTaken mapping.now arena.old.roots class parts.now) taken.now }
     requires of { All (λ object. is_of_root arena.old.roots (root_of mapping.now class) object
         ≡ true) objects.now }
-    ensures step { Runs alone (λ u. u)
+    ensures step { OnOk result (Runs alone (λ u. u)
         (spec.fill_owners mapping.now class parts.now taken.now objects.now)
-        (loading arena.old notes.old) result (loading arena.new notes.new) }
+        (loading arena.old notes.old) (Ok tt) (loading arena.new notes.new)) }
     ensures fits { IsFit mapping.now arena.new }
     ensures classes { classes_of arena.new ≡ classes_of arena.old }
-    ensures cause { IfErr result (λ e. e ≡ Memory) }
 {
     let owners = owners_among(alloc, mapping, &*arena, class, objects)?;
     fill_options(

@@ -1,15 +1,14 @@
 //! What rows give to owners, by the numbers of these.
 
-ghost use Rattle.std.specs.Prelude.{◌≡◌, [], ◌∷◌, ◌++◌, IfErr, IfOk, OnOk};
+ghost use Rattle.std.specs.Prelude.{◌≡◌, [], ◌∷◌, ◌++◌, IfOk, OnOk};
 ghost use Rattle.std.specs.Option.{unwrap_or};
 ghost use Rattle.base_core.specs.declared.ids.ObjId.{ObjId};
-ghost use Rattle.base_core.specs.declared.refusal.Refusal.TheVariants.{Memory};
 ghost use Rattle.joined_rows.specs.Taking.{member_at};
 ghost use Rattle.load_queries.specs.Joined as spec;
 
-use base_core::{ListOf, ObjId, ObjList, Refusal};
+use base_core::{ListOf, ObjId, ObjList};
 use object_parts::Taken;
-use std::alloc::Global;
+use std::alloc::{AllocError, Global};
 use std::collections::BTreeMap;
 
 /// What each owner was given, under its number.
@@ -35,10 +34,9 @@ fn objects_or_none(alloc: Global, found: Option<ObjList>) -> ObjList
 }
 
 /// What a row gives its owner goes behind what the owner was given before.
-fn add_given(alloc: Global, given: &mut Given, number: usize, one: &Taken) -> Result<(), Refusal>
-    ensures given { OnOk result ((owner : ObjId) → spec.objects_at given.new owner.0
+fn add_given(alloc: Global, given: &mut Given, number: usize, one: &Taken) -> Result<(), AllocError>
+    ensures { OnOk result ((owner : ObjId) → spec.objects_at given.new owner.0
         ≡ spec.objects_at given.old owner.0 ++ spec.given_to number (one.now ∷ []) owner) }
-    ensures cause { IfErr result (λ e. e ≡ Memory) }
 {
     let Some(member) = member_at(one.members.as_slice(), number) else {
         return Ok(());
@@ -51,9 +49,12 @@ fn add_given(alloc: Global, given: &mut Given, number: usize, one: &Taken) -> Re
 
 /// What rows give for the option of a number, owner by owner. An ordered map has it, so that the time grows little faster than how many
 /// the rows are.
-pub(crate) fn given_by_rows(alloc: Global, number: usize, taken: &[Taken]) -> Result<Given, Refusal>
-    ensures given { IfOk result (spec.HasGiven number taken.now) }
-    ensures cause { IfErr result (λ e. e ≡ Memory) }
+pub(crate) fn given_by_rows(
+    alloc: Global,
+    number: usize,
+    taken: &[Taken],
+) -> Result<Given, AllocError>
+    ensures { IfOk result (spec.HasGiven number taken.now) }
 {
     let mut given = BTreeMap::new(alloc);
     for one in taken {

@@ -1,8 +1,7 @@
 //! The objects of a query.
 
-ghost use Rattle.std.specs.Prelude.{◌≡◌, ◌<◌, true, length, IfErr, IfOk};
+ghost use Rattle.std.specs.Prelude.{◌≡◌, ◌<◌, true, length, IfErr, IfOk, Ok};
 ghost use Rattle.std.specs.List.{All, AllByRecursion};
-ghost use Rattle.base_core.specs.declared.refusal.Refusal.TheVariants.{Memory};
 ghost use Rattle.class_mapping.specs.Mapped.{IsClass, relations_of, root_of};
 ghost use Rattle.object_arena.specs.Every.{classes_of};
 ghost use Rattle.object_arena.specs.Fit.{IsFit, is_of_root};
@@ -29,18 +28,16 @@ use joined_rows::{Part, parts_of, rows_have_parts, take_joined};
 use keeper_core::{Keeper, Notes};
 use load_calls::read;
 use main_selects::main_select;
-use mapping_laws::has_hierarchies;
 use object_arena::Arena;
 use object_parts::{Taken, answered};
-use std::alloc::Global;
+use std::alloc::{AllocError, Global};
 
 /// Where the joined options of a query stand in its rows.
 fn parts_of_query(
     alloc: Global,
     mapping: &Mapping,
     query: &ObjectQuery,
-) -> Result<ListOf<Part>, Refusal>
-    requires configured { mapping.now.configured ≡ true }
+) -> Result<ListOf<Part>, AllocError>
     requires class { IsClass mapping.now query.now.class }
     requires options { All
         (λ place. place.0 < length (relations_of mapping.now query.now.class))
@@ -49,9 +46,8 @@ fn parts_of_query(
         (λ parts. parts ≡ parts_of mapping.now query.now.class query.now.joined) }
     ensures of { IfOk result (All (spec.IsPartOf mapping.now query.now.class)) }
     ensures targets { IfOk result (All (λ part. IsClass mapping.now part.target)) }
-    ensures cause { IfErr result (λ e. e ≡ Memory) }
 {
-    mapping.is_configured();
+    let _ = mapping.schema();
     parts_of(alloc, mapping, query.class, query.joined.as_slice())
 }
 
@@ -64,23 +60,21 @@ fn read_rows<K: Keeper>(
     notes: &mut Notes,
 ) -> Result<RowList, Refusal>
     requires class { IsClass mapping.now query.now.class }
-    requires configured { mapping.now.configured ≡ true }
     requires options { All
         (λ place. place.0 < length (relations_of mapping.now query.now.class))
         query.now.joined }
     requires plain { IsPlainSelect mapping.now.schema (main_select mapping.now query.now) }
     requires reads { ReadsObjects mapping.now query.now.class query.now.select }
-    requires ready { IsReady mapping.now.schema (K.moment keeper.old) }
+    requires ready { IsReady (K.moment keeper.old) }
     ensures step { (graph : Graph) → Runs (moment_beside K.moment) (λ rows. rows)
         (read mapping.now.schema (main_select mapping.now query.now))
         (loading graph notes.old, keeper.old) result (loading graph notes.new, keeper.new) }
-    ensures stays { StaysReady mapping.now.schema result (K.moment keeper.new) }
+    ensures stays { StaysReady (K.moment keeper.old) result (K.moment keeper.new) }
     ensures rows { IfOk result (AllByRecursion (IsJoinedRow mapping.now query.now.class
         (parts_of mapping.now query.now.class query.now.joined))) }
     ensures refuses { IfErr result (CanRefuseRows mapping.now) }
 {
-    has_hierarchies(mapping);
-    mapping.is_configured();
+    let _ = mapping.schema();
     rows_have_parts();
     let wanted = main_select(alloc, mapping, query)?;
     read(alloc, mapping, keeper, &wanted, notes)
@@ -95,20 +89,18 @@ fn fill_taken(
     parts: &[Part],
     taken: &[Taken],
     notes: &mut Notes,
-) -> Result<ObjList, Refusal>
+) -> Result<ObjList, AllocError>
     requires class { IsClass mapping.now class }
-    requires configured { mapping.now.configured ≡ true }
     requires fit { IsFit mapping.now arena.old }
     requires parts { All (spec.IsPartOf mapping.now class) parts.now }
     requires taken { All (IsTaken mapping.now arena.old.roots class parts.now) taken.now }
-    ensures step { Runs alone (λ objects. objects)
+    ensures step { IfOk result (λ objects. Runs alone (λ found. found)
         (spec.fill_taken mapping.now class parts.now taken.now)
-        (loading arena.old notes.old) result (loading arena.new notes.new) }
+        (loading arena.old notes.old) (Ok objects) (loading arena.new notes.new)) }
     ensures of { IfOk result (All
         (λ object. is_of_root arena.new.roots (root_of mapping.now class) object ≡ true)) }
     ensures fits { IsFit mapping.now arena.new }
     ensures classes { classes_of arena.new ≡ classes_of arena.old }
-    ensures cause { IfErr result (λ e. e ≡ Memory) }
 {
     let objects = answered(alloc, taken)?;
     fill_owners(
@@ -137,7 +129,6 @@ fn take_answers(
 ) -> Result<ObjList, Refusal>
     requires class { IsClass mapping.now class }
     requires targets { All (λ part. IsClass mapping.now part.target) parts.now }
-    requires configured { mapping.now.configured ≡ true }
     requires fit { IsFit mapping.now arena.old }
     requires parts { All (spec.IsPartOf mapping.now class) parts.now }
     requires rows { AllByRecursion (IsJoinedRow mapping.now class parts.now) rows.now }
@@ -151,7 +142,7 @@ fn take_answers(
     ensures refuses { IfErr result CanRefuseRow }
 {
     let taken = take_joined(alloc, arena, mapping, class, parts, rows, notes)?;
-    fill_taken(alloc, arena, mapping, class, parts, taken.as_slice(), notes)
+    Ok(fill_taken(alloc, arena, mapping, class, parts, taken.as_slice(), notes)?)
 }
 
 /// Loads the objects of a query by its main select, and with them the links of its joined options: in the order of the rows, one object
@@ -174,21 +165,20 @@ pub fn load_joined<K: Keeper>(
     notes: &mut Notes,
 ) -> Result<ObjList, Refusal>
     requires class { IsClass mapping.now query.now.class }
-    requires configured { mapping.now.configured ≡ true }
     requires fit { IsFit mapping.now arena.old }
     requires options { All
         (λ place. place.0 < length (relations_of mapping.now query.now.class))
         query.now.joined }
     requires plain { IsPlainSelect mapping.now.schema (main_select mapping.now query.now) }
     requires reads { ReadsObjects mapping.now query.now.class query.now.select }
-    requires ready { IsReady mapping.now.schema (K.moment keeper.old) }
+    requires ready { IsReady (K.moment keeper.old) }
     ensures step { Runs (moment_beside K.moment) (λ objects. objects)
         (spec.load_joined mapping.now query.now)
         (loading arena.old notes.old, keeper.old) result
         (loading arena.new notes.new, keeper.new) }
     ensures of { IfOk result (All (λ object. is_of_root arena.new.roots
         (root_of mapping.now query.now.class) object ≡ true)) }
-    ensures stays { StaysReady mapping.now.schema result (K.moment keeper.new) }
+    ensures stays { StaysReady (K.moment keeper.old) result (K.moment keeper.new) }
     ensures grows { Grows arena.old arena.new }
     ensures fits { IsFit mapping.now arena.new }
     ensures refuses { IfErr result (CanRefuseRows mapping.now) }

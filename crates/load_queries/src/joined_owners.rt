@@ -1,17 +1,16 @@
 //! The owners among objects.
 
-ghost use Rattle.std.specs.Prelude.{◌≡◌, IfErr, IfOk};
+ghost use Rattle.std.specs.Prelude.{◌≡◌, IfOk};
 ghost use Rattle.std.specs.List.{All};
-ghost use Rattle.base_core.specs.declared.refusal.Refusal.TheVariants.{Memory};
 ghost use Rattle.object_arena.specs.Graph.{IsObject};
 ghost use Rattle.relations.specs.Mirror.{is_of};
 ghost use Rattle.load_queries.specs.Joined as spec;
 
-use base_core::{ClassId, ListOf, ObjId, ObjList, Refusal};
+use base_core::{ClassId, ListOf, ObjId, ObjList};
 use class_layouts::has_class;
 use class_mapping::Mapping;
 use object_arena::Arena;
-use std::alloc::Global;
+use std::alloc::{AllocError, Global};
 
 /// Whether an object is of a class at or under another.
 fn is_owner(arena: &Arena, mapping: &Mapping, class: ClassId, object: ObjId) -> bool
@@ -29,9 +28,8 @@ pub(crate) fn owners_among(
     arena: &Arena,
     class: ClassId,
     objects: &[ObjId],
-) -> Result<ObjList, Refusal>
+) -> Result<ObjList, AllocError>
     requires { All (IsObject arena.now) objects.now }
-    ensures cause { IfErr result (λ e. e ≡ Memory) }
     ensures of { IfOk result (All (spec.IsOwner mapping.now arena.now class)) }
     ensures owners { IfOk result
         (λ owners. owners ≡ spec.owners_among mapping.now class arena.now objects.now) }

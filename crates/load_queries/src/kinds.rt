@@ -1,6 +1,6 @@
 //! One link of several objects, by its kind.
 
-ghost use Rattle.std.specs.Prelude.{◌≡◌, ◌<◌, true, length, slice_get, IfErr};
+ghost use Rattle.std.specs.Prelude.{◌≡◌, ◌<◌, length, slice_get, IfErr};
 ghost use Rattle.std.specs.List.{All};
 ghost use Rattle.class_mapping.specs.Mapped.{IsClass, relations_of};
 ghost use Rattle.class_mapping.specs.Related.{IsRelated};
@@ -26,12 +26,11 @@ use std::alloc::Global;
 /// The relationship at a place of a class.
 pub(crate) fn related(mapping: &Mapping, class: ClassId, place: RelNo) -> &Relation
     requires class { IsClass mapping.now class }
-    requires configured { mapping.now.configured ≡ true }
     requires place { place.0 < length (relations_of mapping.now class) }
     ensures is { result.now ≡ relation_of mapping.now class place }
     ensures related { IsRelated mapping.now result.now }
 {
-    let _ = mapping.is_configured();
+    let _ = mapping.schema();
     relation_at(mapping, class, place)
 }
 
@@ -53,16 +52,15 @@ pub fn load_together<K: Keeper>(
     owners: &[ObjId],
     notes: &mut Notes,
 ) -> Result<(), Refusal>
-    requires configured { mapping.now.configured ≡ true }
     requires fit { IsFit mapping.now arena.old }
     requires related { IsRelated mapping.now relation.now }
     requires owners { All (IsOwner mapping.now arena.old relation.now place) owners.now }
-    requires ready { IsReady mapping.now.schema (K.moment keeper.old) }
+    requires ready { IsReady (K.moment keeper.old) }
     ensures step { Runs (moment_beside K.moment) (λ u. u)
         (spec.load_together mapping.now relation.now place owners.now)
         (loading arena.old notes.old, keeper.old) result
         (loading arena.new notes.new, keeper.new) }
-    ensures stays { StaysReady mapping.now.schema result (K.moment keeper.new) }
+    ensures stays { StaysReady (K.moment keeper.old) result (K.moment keeper.new) }
     ensures grows { Grows arena.old arena.new }
     ensures fits { IsFit mapping.now arena.new }
     ensures refuses { IfErr result (CanRefuseRows mapping.now) }
@@ -100,20 +98,19 @@ pub fn load_selectin<K: Keeper>(
     place: RelNo,
     notes: &mut Notes,
 ) -> Result<(), Refusal>
-    requires configured { mapping.now.configured ≡ true }
     requires fit { IsFit mapping.now arena.old }
     requires owners { spec.AreOwners mapping.now arena.old place owners.now }
-    requires ready { IsReady mapping.now.schema (K.moment keeper.old) }
+    requires ready { IsReady (K.moment keeper.old) }
     ensures step { Runs (moment_beside K.moment) (λ u. u)
         (spec.load_selectin mapping.now place owners.now)
         (loading arena.old notes.old, keeper.old) result
         (loading arena.new notes.new, keeper.new) }
-    ensures stays { StaysReady mapping.now.schema result (K.moment keeper.new) }
+    ensures stays { StaysReady (K.moment keeper.old) result (K.moment keeper.new) }
     ensures grows { Grows arena.old arena.new }
     ensures fits { IsFit mapping.now arena.new }
     ensures refuses { IfErr result (CanRefuseRows mapping.now) }
 {
-    let _ = mapping.is_configured();
+    let _ = mapping.schema();
     match first_of(owners) {
         Some(first) => {
             let relation = related(mapping, arena.object(first).class, place);

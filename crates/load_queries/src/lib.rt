@@ -15,6 +15,6 @@ mod queries;
 pub use every::{every_object, has_plain_select, let_go};
 pub use joined::load_joined;
 pub use kinds::{load_selectin, load_together};
-pub use options::{load_objects, load_options};
+pub use options::{load_objects, load_options, load_query};
 pub use owners::is_owner;
 pub use queries::load_select;

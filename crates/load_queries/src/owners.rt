@@ -1,16 +1,15 @@
 //! The objects whose links are loaded.
 
-ghost use Rattle.std.specs.Prelude.{◌≡◌, ◌++◌, IfErr, IfOk, OnOk};
+ghost use Rattle.std.specs.Prelude.{◌≡◌, ◌++◌, IfOk, OnOk};
 ghost use Rattle.std.specs.List.{All};
-ghost use Rattle.base_core.specs.declared.refusal.Refusal.TheVariants.{Memory};
 ghost use Rattle.object_arena.specs.Graph.{IsObject, is_persistent};
 ghost use Rattle.load_queries.specs.Selectin as spec;
 
-use base_core::{ClassId, ListOf, ObjId, ObjList, Refusal};
+use base_core::{ClassId, ListOf, ObjId, ObjList};
 use class_layouts::has_class;
 use class_mapping::Mapping;
 use object_arena::{Arena, State};
-use std::alloc::Global;
+use std::alloc::{AllocError, Global};
 
 fn is_persistent(state: State) -> bool
     ensures { result ≡ is_persistent state }
@@ -37,13 +36,12 @@ fn push_owner(
     mapping: &Mapping,
     class: ClassId,
     object: ObjId,
-) -> Result<(), Refusal>
+) -> Result<(), AllocError>
     requires { IsObject arena.now object }
     ensures owners { OnOk result
         (owners.new ≡ owners.old ++ spec.if_owner mapping.now class arena.now object) }
     ensures of { All (spec.IsOwnerOf mapping.now arena.now class) owners.old
         → OnOk result (All (spec.IsOwnerOf mapping.now arena.now class) owners.new) }
-    ensures cause { IfErr result (λ e. e ≡ Memory) }
 {
     if !is_owner(arena, mapping, class, object) {
         return Ok(());
@@ -59,12 +57,11 @@ pub(crate) fn owners_among(
     mapping: &Mapping,
     class: ClassId,
     objects: &[ObjId],
-) -> Result<ObjList, Refusal>
+) -> Result<ObjList, AllocError>
     requires { All (IsObject arena.now) objects.now }
     ensures owners { IfOk result
         (λ owners. owners ≡ spec.owners_among mapping.now class arena.now objects.now) }
     ensures of { IfOk result (All (spec.IsOwnerOf mapping.now arena.now class)) }
-    ensures cause { IfErr result (λ e. e ≡ Memory) }
 {
     let mut owners = ListOf::new(alloc);
     for object in objects {

@@ -21,7 +21,6 @@ use class_mapping::Mapping;
 use expr_types::ObjectQuery;
 use keeper_core::{Keeper, Notes};
 use load_calls::{read, take_rows};
-use mapping_laws::has_hierarchies;
 use object_arena::Arena;
 use object_parts::firsts;
 use std::alloc::Global;
@@ -34,19 +33,18 @@ fn read_rows<K: Keeper>(
     query: &ObjectQuery,
     notes: &mut Notes,
 ) -> Result<RowList, Refusal>
-    requires configured { mapping.now.configured ≡ true }
     requires class { IsClass mapping.now query.now.class }
     requires plain { IsPlainSelect mapping.now.schema query.now.select }
     requires reads { spec.ReadsObjects mapping.now query.now.class query.now.select }
-    requires ready { IsReady mapping.now.schema (K.moment keeper.old) }
+    requires ready { IsReady (K.moment keeper.old) }
     ensures step { (graph : Graph) → Runs (moment_beside K.moment) (λ rows. rows)
         (read mapping.now.schema query.now.select)
         (loading graph notes.old, keeper.old) result (loading graph notes.new, keeper.new) }
-    ensures stays { StaysReady mapping.now.schema result (K.moment keeper.new) }
+    ensures stays { StaysReady (K.moment keeper.old) result (K.moment keeper.new) }
     ensures rows { IfOk result (AllByRecursion (IsRowOf mapping.now query.now.class)) }
     ensures refuses { IfErr result (CanRefuseRows mapping.now) }
 {
-    has_hierarchies(mapping);
+    let _ = mapping.schema();
     read(alloc, mapping, keeper, &query.select, notes)
 }
 
@@ -59,7 +57,6 @@ fn take_objects(
     class: ClassId,
     notes: &mut Notes,
 ) -> Result<ObjList, Refusal>
-    requires configured { mapping.now.configured ≡ true }
     requires class { IsClass mapping.now class }
     requires rows { AllByRecursion (IsRowOf mapping.now class) rows.now }
     requires fit { IsFit mapping.now arena.old }
@@ -72,7 +69,7 @@ fn take_objects(
     ensures refuses { IfErr result CanRefuseRow }
 {
     let objects = take_rows(alloc, arena, mapping, class, rows, notes)?;
-    firsts(alloc, objects.as_slice())
+    Ok(firsts(alloc, objects.as_slice())?)
 }
 
 /// Loads the objects of a query by its select, which has no further sources or columns for options: in the order of the rows, one
@@ -92,17 +89,16 @@ pub fn load_select<K: Keeper>(
     query: &ObjectQuery,
     notes: &mut Notes,
 ) -> Result<ObjList, Refusal>
-    requires configured { mapping.now.configured ≡ true }
     requires fit { IsFit mapping.now arena.old }
     requires class { IsClass mapping.now query.now.class }
     requires plain { IsPlainSelect mapping.now.schema query.now.select }
     requires reads { spec.ReadsObjects mapping.now query.now.class query.now.select }
-    requires ready { IsReady mapping.now.schema (K.moment keeper.old) }
+    requires ready { IsReady (K.moment keeper.old) }
     ensures step { Runs (moment_beside K.moment) (λ objects. objects)
         (spec.load_select mapping.now query.now)
         (loading arena.old notes.old, keeper.old) result
         (loading arena.new notes.new, keeper.new) }
-    ensures stays { StaysReady mapping.now.schema result (K.moment keeper.new) }
+    ensures stays { StaysReady (K.moment keeper.old) result (K.moment keeper.new) }
     ensures of { IfOk result (All (λ object. is_of_root arena.new.roots
         (root_of mapping.now query.now.class) object ≡ true)) }
     ensures grows { Grows arena.old arena.new }

@@ -146,6 +146,6 @@ take_stopped v mapped class values old new notes e (Err d) passed same is =
     subst (λ (f : Refusal). IsQuiet v (take_row mapped class values (loading old notes)) (Err f) (loading new notes)) (sym passed) (take_refused v mapped class values old new notes e same is)
 
 -- memory ran out
-pub take_lost : {S A X : Type 0} (v : X → A) (run : Run S A) (now : S) (e : Refusal) (r : Result X Refusal) → IsErrAnd r (λ d. d ≡ e) → e ≡ Memory → IsQuiet v run r now
-take_lost v run now e (Ok x) passed is = absurd passed
-take_lost v run now e (Err d) passed is = subst (λ (f : Refusal). IsQuiet v run (Err f) now) (sym (passed ∙ is)) tt
+pub take_lost : {S A X : Type 0} (v : X → A) (run : Run S A) (now : S) (r : Result X Refusal) → IsErrAnd r (λ d. d ≡ Memory) → IsQuiet v run r now
+take_lost v run now (Ok x) passed = absurd passed
+take_lost v run now (Err d) passed = subst (λ (f : Refusal). IsQuiet v run (Err f) now) (sym passed) tt

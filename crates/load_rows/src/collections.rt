@@ -1,8 +1,7 @@
 //! The filling of collections, noted.
 
-ghost use Rattle.std.specs.Prelude.{◌≡◌, ◌<◌, true, length, IfErr, OnOk};
+ghost use Rattle.std.specs.Prelude.{◌≡◌, ◌<◌, true, length, OnOk};
 ghost use Rattle.std.specs.List.{All};
-ghost use Rattle.base_core.specs.declared.refusal.Refusal.TheVariants.{Memory};
 ghost use Rattle.class_mapping.specs.Mapped.{IsClass, relations_of, root_of};
 ghost use Rattle.object_arena.specs.Every.{classes_of};
 ghost use Rattle.object_arena.specs.Fit.{IsFit, is_of_root, link_fits, relation_of};
@@ -12,16 +11,15 @@ ghost use Rattle.load_rows.specs.Links as spec;
 
 use crate::members::collection_of;
 use crate::order::in_key_order;
-use base_core::{ClassId, ObjId, Refusal, RelNo};
+use base_core::{ClassId, ObjId, RelNo};
 use class_mapping::{Mapping, Relation};
 use keeper_core::{Note, Notes};
 use object_arena::{Arena, Link};
-use std::alloc::Global;
+use std::alloc::{AllocError, Global};
 
 /// The relationship at a place of a class.
 pub fn relation_at(mapping: &Mapping, class: ClassId, place: RelNo) -> &Relation
     requires class { IsClass mapping.now class }
-    requires configured { mapping.now.configured ≡ true }
     requires place { place.0 < length (relations_of mapping.now class) }
     ensures { result.now ≡ relation_of mapping.now class place }
 {
@@ -48,11 +46,11 @@ pub(crate) fn has_link(arena: &Arena, mapping: &Mapping, object: ObjId, place: R
         (spec.link_at arena.now object place) ≡ true }
 {
     let _ = arena.object(object);
-    let _ = (mapping.is_configured(), place);
+    let _ = place;
 }
 
-/// An unloaded collection of an object holds what was read, in the order of keys and with the changes that were kept for it; its
-/// owner is noted then. A loaded one stays. The only refusal is `Memory`, and it leaves the objects as they were.
+/// An unloaded collection of an object holds what was read, in the order of keys and with the changes that were kept for it;
+/// its owner is noted then. A loaded one stays. Where memory runs out it leaves the objects as they were.
 #[tactic(auto, unfolding(crate::specs::Links::collection_filled))]
 pub fn fill_collection(
     alloc: Global,
@@ -62,7 +60,7 @@ pub fn fill_collection(
     place: RelNo,
     read: &[ObjId],
     notes: &mut Notes,
-) -> Result<(), Refusal>
+) -> Result<(), AllocError>
     requires fit { IsFit mapping.now arena.old }
     requires owner { IsObject arena.old owner }
     requires place { place.0 < length (relations_of mapping.now (object_at arena.old owner).class) }
@@ -72,7 +70,6 @@ pub fn fill_collection(
         read.now }
     ensures filled { OnOk result (loading arena.new notes.new
         ≡ spec.collection_filled owner place read.now (loading arena.old notes.old)) }
-    ensures cause { IfErr result (λ e. e ≡ Memory) }
     ensures fits { IsFit mapping.now arena.new }
     ensures classes { classes_of arena.new ≡ classes_of arena.old }
 {
@@ -82,5 +79,6 @@ pub fn fill_collection(
         return Ok(());
     };
     notes.push(Note::Filled(owner))?;
-    arena.put_link(owner, place, link)
+    arena.put_link(owner, place, link);
+    Ok(())
 }

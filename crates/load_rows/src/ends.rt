@@ -1,7 +1,6 @@
 //! The filling of many-to-one links, noted.
 
-ghost use Rattle.std.specs.Prelude.{◌≡◌, ◌<◌, true, false, length, IfErr, OnOk};
-ghost use Rattle.base_core.specs.declared.refusal.Refusal.TheVariants.{Memory};
+ghost use Rattle.std.specs.Prelude.{◌≡◌, ◌<◌, true, false, length, OnOk};
 ghost use Rattle.class_mapping.specs.Mapped.{relations_of, root_of};
 ghost use Rattle.object_arena.specs.Every.{classes_of};
 ghost use Rattle.object_arena.specs.Fit.{IsFit, end_fits, relation_of};
@@ -10,10 +9,11 @@ ghost use Rattle.load_rows.specs.Loading.{loading};
 ghost use Rattle.load_rows.specs.Links as spec;
 
 use crate::collections::{has_link, link_at};
-use base_core::{ObjId, Refusal, RelNo};
+use base_core::{ObjId, RelNo};
 use class_mapping::Mapping;
 use keeper_core::{Note, Notes};
 use object_arena::{Arena, Link};
+use std::alloc::AllocError;
 
 /// An unloaded many-to-one link leads to what was found; a loaded one stays.
 fn end_of(link: &Link, end: Option<ObjId>) -> Option<Link>
@@ -29,7 +29,7 @@ fn end_of(link: &Link, end: Option<ObjId>) -> Option<Link>
 }
 
 /// An unloaded many-to-one link of an object leads to what was found, which is none or of the target's hierarchy; the object is
-/// noted then. A loaded one stays. The only refusal is `Memory`, and it leaves the objects as they were.
+/// noted then. A loaded one stays. Where memory runs out it leaves the objects as they were.
 #[tactic(auto, unfolding(crate::specs::Links::end_filled))]
 pub fn fill_end(
     arena: &mut Arena,
@@ -38,7 +38,7 @@ pub fn fill_end(
     place: RelNo,
     end: Option<ObjId>,
     notes: &mut Notes,
-) -> Result<(), Refusal>
+) -> Result<(), AllocError>
     requires fit { IsFit mapping.now arena.old }
     requires owner { IsObject arena.old owner }
     requires place { place.0 < length (relations_of mapping.now (object_at arena.old owner).class) }
@@ -47,7 +47,6 @@ pub fn fill_end(
         (relation_of mapping.now (object_at arena.old owner).class place).target) end ≡ true }
     ensures filled { OnOk result (loading arena.new notes.new
         ≡ spec.end_filled owner place end (loading arena.old notes.old)) }
-    ensures cause { IfErr result (λ e. e ≡ Memory) }
     ensures fits { IsFit mapping.now arena.new }
     ensures classes { classes_of arena.new ≡ classes_of arena.old }
 {
@@ -56,5 +55,6 @@ pub fn fill_end(
         return Ok(());
     };
     notes.push(Note::Filled(owner))?;
-    arena.put_link(owner, place, link)
+    arena.put_link(owner, place, link);
+    Ok(())
 }

@@ -1,22 +1,20 @@
 //! What a collection holds, once it is loaded. The only refusal is `Memory`.
 
-ghost use Rattle.std.specs.Prelude.{◌≡◌, IfErr, IfOk};
-ghost use Rattle.base_core.specs.declared.refusal.Refusal.TheVariants.{Memory};
+ghost use Rattle.std.specs.Prelude.{◌≡◌, IfOk};
 ghost use Rattle.load_rows.specs.Links as spec;
 
-use base_core::{ObjList, Refusal};
+use base_core::ObjList;
 use object_arena::Link;
 use object_parts::linked;
-use std::alloc::Global;
+use std::alloc::{AllocError, Global};
 
 /// An unloaded collection is loaded with what was read and the kept changes; a loaded link stays.
 pub(crate) fn collection_of(
     alloc: Global,
     link: &Link,
     read: ObjList,
-) -> Result<Option<Link>, Refusal>
-    ensures link { IfOk result (λ new. new ≡ spec.collection_of read link.now) }
-    ensures cause { IfErr result (λ e. e ≡ Memory) }
+) -> Result<Option<Link>, AllocError>
+    ensures { IfOk result (λ new. new ≡ spec.collection_of read link.now) }
 {
     match link {
         Link::Unloaded { added, removed } => {

@@ -1,25 +1,23 @@
 //! Objects in the order of their keys.
 
-ghost use Rattle.std.specs.Prelude.{◌≡◌, IfErr, IfOk, OnOk};
+ghost use Rattle.std.specs.Prelude.{◌≡◌, IfOk, OnOk};
 ghost use Rattle.std.specs.List.{All};
 ghost use Rattle.std.specs.Map.{values_of};
 ghost use Rattle.base_core.specs.declared.ids.ObjId.{ObjId};
-ghost use Rattle.base_core.specs.declared.refusal.Refusal.TheVariants.{Memory};
 ghost use Rattle.object_arena.specs.Graph.{IsObject};
 ghost use Rattle.load_rows.specs.Reading.{identity_key};
 ghost use Rattle.load_rows.specs.Links as spec;
 
-use base_core::{Copied, Key, ListOf, ObjId, ObjList, Refusal};
+use base_core::{Copied, Key, ListOf, ObjId, ObjList};
 use object_arena::Arena;
 use object_parts::enter_under;
-use std::alloc::Global;
+use std::alloc::{AllocError, Global};
 use std::collections::BTreeMap;
 
-/// The key of an object's row; of an object without an identity it is empty. The only refusal is `Memory`.
-pub fn identity_key(alloc: Global, arena: &Arena, object: ObjId) -> Result<Key, Refusal>
+/// The key of an object's row; of an object without an identity it is empty.
+pub fn identity_key(alloc: Global, arena: &Arena, object: ObjId) -> Result<Key, AllocError>
     requires { IsObject arena.now object }
-    ensures key { IfOk result (λ key. key ≡ identity_key arena.now object) }
-    ensures cause { IfErr result (λ e. e ≡ Memory) }
+    ensures { IfOk result (λ key. key ≡ identity_key arena.now object) }
 {
     match &arena.object(object).identity {
         Some(key) => Ok(key.copied()?),
@@ -33,35 +31,32 @@ fn enter(
     alloc: Global,
     arena: &Arena,
     object: ObjId,
-) -> Result<(), Refusal>
+) -> Result<(), AllocError>
     requires { IsObject arena.now object }
-    ensures entered { OnOk result
+    ensures { OnOk result
         (entries.new.entries ≡ spec.with_key arena.now entries.old.entries object) }
-    ensures cause { IfErr result (λ e. e ≡ Memory) }
 {
     let key = identity_key(alloc, arena, object)?;
     enter_under(entries, key, object)
 }
 
 /// The objects that stand under keys, in order.
-fn objects_of(alloc: Global, entries: BTreeMap<Key, ObjId>) -> Result<ObjList, Refusal>
-    ensures objects { IfOk result (λ objects. objects ≡ values_of entries.entries) }
-    ensures cause { IfErr result (λ e. e ≡ Memory) }
+fn objects_of(alloc: Global, entries: BTreeMap<Key, ObjId>) -> Result<ObjList, AllocError>
+    ensures { IfOk result (λ objects. objects ≡ values_of entries.entries) }
 {
     Ok(ListOf::from_vec(entries.into_values().collect(alloc)?))
 }
 
-/// Objects in the order of their keys, each once. An ordered map has them, so that the time grows little faster than their number.
-/// The only refusal is `Memory`.
+/// Objects in the order of their keys, each once. An ordered map has them, so that the time grows little faster than their
+/// number.
 #[tactic(auto, using(class_layouts::proofs::Steps::steps), unfolding(crate::specs::Links::in_key_order))]
 pub(crate) fn in_key_order(
     alloc: Global,
     arena: &Arena,
     objects: &[ObjId],
-) -> Result<ObjList, Refusal>
+) -> Result<ObjList, AllocError>
     requires { All (IsObject arena.now) objects.now }
-    ensures order { IfOk result (λ found. found ≡ spec.in_key_order arena.now objects.now) }
-    ensures cause { IfErr result (λ e. e ≡ Memory) }
+    ensures { IfOk result (λ found. found ≡ spec.in_key_order arena.now objects.now) }
 {
     let mut entries = BTreeMap::new(alloc);
     for object in objects {

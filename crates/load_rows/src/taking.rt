@@ -1,9 +1,8 @@
 //! The object of a row.
 
-ghost use Rattle.std.specs.Prelude.{◌≡◌, true, IfErr, IfOk, OnOk};
+ghost use Rattle.std.specs.Prelude.{◌≡◌, IfOk, OnOk};
 ghost use Rattle.std.specs.List.{position};
 ghost use Rattle.std.specs.Option.{option_copied};
-ghost use Rattle.base_core.specs.declared.refusal.Refusal.TheVariants.{Memory};
 ghost use Rattle.class_mapping.specs.Mapped.{IsClass, root_of};
 ghost use Rattle.object_arena.specs.Fit.{IsFit, KeepsWith};
 ghost use Rattle.object_arena.specs.Graph.{IsObject, object_at, root_at};
@@ -19,7 +18,7 @@ use class_mapping::{Attribute, Mapping};
 use keeper_core::Notes;
 use load_filling::row_object;
 use object_arena::Arena;
-use std::alloc::Global;
+use std::alloc::{AllocError, Global};
 
 /// The place of the attribute of a column.
 fn place_of_column(attributes: &[Attribute], wanted: &Attribute) -> Option<usize>
@@ -36,12 +35,10 @@ fn value_for(
     class: ClassId,
     values: &[Value],
     attribute: &Attribute,
-) -> Result<Option<Value>, Refusal>
+) -> Result<Option<Value>, AllocError>
     requires class { IsClass mapping.now class }
-    requires configured { mapping.now.configured ≡ true }
-    ensures value { IfOk result
+    ensures { IfOk result
         (λ value. value ≡ spec.value_for mapping.now class values.now attribute.now) }
-    ensures cause { IfErr result (λ e. e ≡ Memory) }
 {
     let Some(place) = place_of_column(mapping.attributes(class), attribute) else {
         return Ok(None);
@@ -59,13 +56,11 @@ fn found_in_row(
     class: ClassId,
     values: &[Value],
     own: ClassId,
-) -> Result<ListOf<Option<Value>>, Refusal>
+) -> Result<ListOf<Option<Value>>, AllocError>
     requires class { IsClass mapping.now class }
     requires own { IsClass mapping.now own }
-    requires configured { mapping.now.configured ≡ true }
-    ensures found { IfOk result
+    ensures { IfOk result
         (λ found. found ≡ spec.found_in_row mapping.now class values.now own) }
-    ensures cause { IfErr result (λ e. e ≡ Memory) }
 {
     let mut found = ListOf::new(alloc);
     let attributes = mapping.attributes(own);
@@ -84,15 +79,13 @@ fn fill_by_row(
     values: &[Value],
     object: ObjId,
     notes: &mut Notes,
-) -> Result<(), Refusal>
+) -> Result<(), AllocError>
     requires class { IsClass mapping.now class }
-    requires configured { mapping.now.configured ≡ true }
     requires fit { IsFit mapping.now arena.old }
     requires object { IsObject arena.old object }
     ensures filled { OnOk result (spec.loading arena.new notes.new
         ≡ spec.filled_by_row mapping.now class values.now object
         (spec.loading arena.old notes.old)) }
-    ensures cause { IfErr result (λ e. e ≡ Memory) }
     ensures keeps { KeepsWith (AreFoundFor (object_at arena.old object).class
         (spec.found_in_row mapping.now class values.now (object_at arena.old object).class))
         arena.old arena.new }
@@ -117,7 +110,6 @@ pub fn take_row(
     notes: &mut Notes,
 ) -> Result<ObjId, Refusal>
     requires class { IsClass mapping.now class }
-    requires configured { mapping.now.configured ≡ true }
     requires fit { IsFit mapping.now arena.old }
     requires row { IsRowOf mapping.now class values.now }
     ensures step { IsQuiet (λ object. object)

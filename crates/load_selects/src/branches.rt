@@ -1,24 +1,22 @@
 //! The condition by which the rows of a class without a table of its own are told. The only refusal is `Memory`.
 
-ghost use Rattle.std.specs.Prelude.{◌≡◌, true, Some, is_some, IfOk, IfErr};
+ghost use Rattle.std.specs.Prelude.{◌≡◌, true, Some, is_some, IfOk};
 ghost use Rattle.std.specs.Option.{option_copied};
-ghost use Rattle.base_core.specs.declared.refusal.Refusal.TheVariants.{Memory};
 ghost use Rattle.class_mapping.specs.Mapped.{IsClass, class_spec};
 ghost use Rattle.load_selects.specs.Branches as spec;
 
-use base_core::{ClassId, Copied, ListOf, Name, Refusal, RowValues, Value};
+use base_core::{ClassId, Copied, ListOf, Name, RowValues, Value};
 use class_layouts::has_class;
 use class_mapping::Mapping;
 use expr_types::ExprList;
 use load_columns::{Placement, SourceColumn, column_named, is_in, place_at_rank};
 use sqlite_items::Items;
-use std::alloc::Global;
+use std::alloc::{AllocError, Global};
 
 /// The classes by number.
 #[tactic(auto, using(crate::proofs::Steps::number_steps))]
-fn class_ids(alloc: Global, mapping: &Mapping) -> Result<ListOf<ClassId>, Refusal>
-    ensures ids { IfOk result (λ ids. ids ≡ spec.class_ids mapping.now) }
-    ensures cause { IfErr result (λ e. e ≡ Memory) }
+fn class_ids(alloc: Global, mapping: &Mapping) -> Result<ListOf<ClassId>, AllocError>
+    ensures { IfOk result (λ ids. ids ≡ spec.class_ids mapping.now) }
 {
     let mut ids = ListOf::new(alloc);
     for number in 0..mapping.count() {
@@ -35,9 +33,8 @@ fn is_under(mapping: &Mapping, class: ClassId, other: ClassId) -> bool
 }
 
 /// A class, and its descendants in order of declaration.
-fn branch(alloc: Global, mapping: &Mapping, class: ClassId) -> Result<ListOf<ClassId>, Refusal>
-    ensures branch { IfOk result (λ classes. classes ≡ spec.branch mapping.now class) }
-    ensures cause { IfErr result (λ e. e ≡ Memory) }
+fn branch(alloc: Global, mapping: &Mapping, class: ClassId) -> Result<ListOf<ClassId>, AllocError>
+    ensures { IfOk result (λ classes. classes ≡ spec.branch mapping.now class) }
 {
     let ids = class_ids(alloc, mapping)?;
     let mut classes = ListOf::new(alloc);
@@ -62,9 +59,8 @@ fn identity_of(mapping: &Mapping, class: ClassId) -> Option<&Value>
 
 /// What the discriminator of a row of the branch can be.
 #[tactic(auto, using(class_layouts::proofs::Steps::steps))]
-fn identities(alloc: Global, mapping: &Mapping, class: ClassId) -> Result<RowValues, Refusal>
-    ensures values { IfOk result (λ values. values ≡ spec.identities mapping.now class) }
-    ensures cause { IfErr result (λ e. e ≡ Memory) }
+fn identities(alloc: Global, mapping: &Mapping, class: ClassId) -> Result<RowValues, AllocError>
+    ensures { IfOk result (λ values. values ≡ spec.identities mapping.now class) }
 {
     let classes = branch(alloc, mapping, class)?;
     let mut values = ListOf::new(alloc);
@@ -93,11 +89,10 @@ fn discriminator_column(
     class: ClassId,
     placement: Placement,
     name: &Name,
-) -> Result<SourceColumn, Refusal>
+) -> Result<SourceColumn, AllocError>
     requires { IsClass mapping.now class }
-    ensures column { IfOk result (λ column. column
+    ensures { IfOk result (λ column. column
         ≡ spec.discriminator_column mapping.now class placement name.now) }
-    ensures cause { IfErr result (λ e. e ≡ Memory) }
 {
     Ok(SourceColumn {
         source: place_at_rank(placement, 0)?,
@@ -112,11 +107,10 @@ fn names_branch(
     class: ClassId,
     placement: Placement,
     name: &Name,
-) -> Result<ExprList, Refusal>
+) -> Result<ExprList, AllocError>
     requires { IsClass mapping.now class }
-    ensures branch { IfOk result
+    ensures { IfOk result
         (λ es. es ≡ spec.names_branch mapping.now class placement (Some name.now)) }
-    ensures cause { IfErr result (λ e. e ≡ Memory) }
 {
     let column = discriminator_column(mapping, class, placement, name)?;
     let values = identities(alloc, mapping, class)?;
@@ -139,10 +133,9 @@ pub fn is_of_branch(
     mapping: &Mapping,
     class: ClassId,
     placement: Placement,
-) -> Result<ExprList, Refusal>
+) -> Result<ExprList, AllocError>
     requires { IsClass mapping.now class }
-    ensures branch { IfOk result (λ es. es ≡ spec.is_of_branch mapping.now class placement) }
-    ensures cause { IfErr result (λ e. e ≡ Memory) }
+    ensures { IfOk result (λ es. es ≡ spec.is_of_branch mapping.now class placement) }
 {
     if has_table(mapping, class) {
         return Ok(Items::new(alloc));

@@ -1,20 +1,19 @@
 //! The selects of a class's rows, and of those under keys. The only refusal is `Memory`.
 
-ghost use Rattle.std.specs.Prelude.{◌≡◌, ◌++◌, true, map, IfOk, IfErr, OnOk};
-ghost use Rattle.base_core.specs.declared.refusal.Refusal.TheVariants.{Memory};
+ghost use Rattle.std.specs.Prelude.{◌≡◌, ◌++◌, map, IfOk, OnOk};
 ghost use Rattle.class_mapping.specs.Mapped.{IsClass};
 ghost use Rattle.load_selects.specs.Selects as spec;
 
 use crate::branches::is_of_branch;
 use crate::sources::{Further, other_tables};
-use base_core::{ClassId, Key, ListOf, Name, Refusal, TableId};
+use base_core::{ClassId, Key, ListOf, Name, TableId};
 use class_mapping::Mapping;
 use expr_types::{CopiedIn, Expr, ExprList, Joined, Origin, Select};
 use load_columns::{
     SourceColumn, all_of, attribute_columns, conjoined, from_root, has_one_of, has_values, root_key,
 };
 use sqlite_items::Items;
-use std::alloc::Global;
+use std::alloc::{AllocError, Global};
 
 /// A select's items, each with the name that it is given.
 pub type ItemList = ListOf<(Expr, Option<Name>)>;
@@ -26,9 +25,8 @@ fn origin_of(table: TableId) -> Origin
 }
 
 /// A source that is joined.
-fn inner_joined(alloc: Global, further: &Further) -> Result<Joined, Refusal>
-    ensures join { IfOk result (λ join. join ≡ spec.inner_joined further.now) }
-    ensures cause { IfErr result (λ e. e ≡ Memory) }
+fn inner_joined(alloc: Global, further: &Further) -> Result<Joined, AllocError>
+    ensures { IfOk result (λ join. join ≡ spec.inner_joined further.now) }
 {
     let on = further.on.copied_in(alloc)?;
     Ok(Joined {
@@ -39,9 +37,8 @@ fn inner_joined(alloc: Global, further: &Further) -> Result<Joined, Refusal>
 }
 
 /// Sources that are joined.
-fn inner_joins(alloc: Global, further: &[Further]) -> Result<ListOf<Joined>, Refusal>
-    ensures joins { IfOk result (λ joins. joins ≡ map spec.inner_joined further.now) }
-    ensures cause { IfErr result (λ e. e ≡ Memory) }
+fn inner_joins(alloc: Global, further: &[Further]) -> Result<ListOf<Joined>, AllocError>
+    ensures { IfOk result (λ joins. joins ≡ map spec.inner_joined further.now) }
 {
     let mut joins = ListOf::new(alloc);
     for source in further {
@@ -50,10 +47,9 @@ fn inner_joins(alloc: Global, further: &[Further]) -> Result<ListOf<Joined>, Ref
     Ok(joins)
 }
 
-/// Columns go behind other items. The only refusal is `Memory`.
-pub fn push_items(out: &mut ItemList, columns: &[SourceColumn]) -> Result<(), Refusal>
-    ensures items { OnOk result (out.new ≡ out.old ++ map spec.item_of columns.now) }
-    ensures cause { IfErr result (λ e. e ≡ Memory) }
+/// Columns go behind other items.
+pub fn push_items(out: &mut ItemList, columns: &[SourceColumn]) -> Result<(), AllocError>
+    ensures { OnOk result (out.new ≡ out.old ++ map spec.item_of columns.now) }
 {
     for column in columns {
         out.push((Expr::Column(column.source, column.column), None))?;
@@ -62,9 +58,8 @@ pub fn push_items(out: &mut ItemList, columns: &[SourceColumn]) -> Result<(), Re
 }
 
 /// Columns as items.
-fn items_of(alloc: Global, columns: &[SourceColumn]) -> Result<ItemList, Refusal>
-    ensures items { IfOk result (λ items. items ≡ map spec.item_of columns.now) }
-    ensures cause { IfErr result (λ e. e ≡ Memory) }
+fn items_of(alloc: Global, columns: &[SourceColumn]) -> Result<ItemList, AllocError>
+    ensures { IfOk result (λ items. items ≡ map spec.item_of columns.now) }
 {
     let mut items = ListOf::new(alloc);
     push_items(&mut items, columns)?;
@@ -78,10 +73,9 @@ pub fn select_of(
     further: &[Further],
     columns: &[SourceColumn],
     conditions: ExprList,
-) -> Result<Select, Refusal>
-    ensures select { IfOk result
+) -> Result<Select, AllocError>
+    ensures { IfOk result
         (λ s. s ≡ spec.select_of first further.now columns.now conditions) }
-    ensures cause { IfErr result (λ e. e ≡ Memory) }
 {
     let items = items_of(alloc, columns)?;
     let joins = inner_joins(alloc, further)?;
@@ -99,19 +93,17 @@ pub fn select_of(
     })
 }
 
-/// Columns of the tables of a class, where all conditions hold. The only refusal is `Memory`.
+/// Columns of the tables of a class, where all conditions hold.
 pub fn class_select(
     alloc: Global,
     mapping: &Mapping,
     class: ClassId,
     columns: &[SourceColumn],
     conditions: ExprList,
-) -> Result<Select, Refusal>
+) -> Result<Select, AllocError>
     requires class { IsClass mapping.now class }
-    requires configured { mapping.now.configured ≡ true }
-    ensures select { IfOk result
+    ensures { IfOk result
         (λ s. s ≡ spec.class_select mapping.now class columns.now conditions) }
-    ensures cause { IfErr result (λ e. e ≡ Memory) }
 {
     let further = other_tables(alloc, mapping, class, from_root(0))?;
     select_of(
@@ -129,11 +121,9 @@ pub fn class_rows(
     mapping: &Mapping,
     class: ClassId,
     conditions: ExprList,
-) -> Result<Select, Refusal>
+) -> Result<Select, AllocError>
     requires class { IsClass mapping.now class }
-    requires configured { mapping.now.configured ≡ true }
-    ensures select { IfOk result (λ s. s ≡ spec.class_rows mapping.now class conditions) }
-    ensures cause { IfErr result (λ e. e ≡ Memory) }
+    ensures { IfOk result (λ s. s ≡ spec.class_rows mapping.now class conditions) }
 {
     let columns = attribute_columns(alloc, mapping, class, from_root(0))?;
     let mut conditions = conditions;
@@ -148,11 +138,9 @@ pub fn key_select(
     mapping: &Mapping,
     class: ClassId,
     key: &Key,
-) -> Result<Select, Refusal>
+) -> Result<Select, AllocError>
     requires class { IsClass mapping.now class }
-    requires configured { mapping.now.configured ≡ true }
-    ensures select { IfOk result (λ s. s ≡ spec.key_select mapping.now class key.now) }
-    ensures cause { IfErr result (λ e. e ≡ Memory) }
+    ensures { IfOk result (λ s. s ≡ spec.key_select mapping.now class key.now) }
 {
     let columns = root_key(alloc, mapping, class, from_root(0))?;
     let conditions = has_values(alloc, columns.as_slice(), key.as_slice())?;
@@ -166,11 +154,9 @@ pub fn targets_select(
     mapping: &Mapping,
     class: ClassId,
     keys: &[Key],
-) -> Result<Select, Refusal>
+) -> Result<Select, AllocError>
     requires class { IsClass mapping.now class }
-    requires configured { mapping.now.configured ≡ true }
-    ensures select { IfOk result (λ s. s ≡ spec.targets_select mapping.now class keys.now) }
-    ensures cause { IfErr result (λ e. e ≡ Memory) }
+    ensures { IfOk result (λ s. s ≡ spec.targets_select mapping.now class keys.now) }
 {
     let columns = root_key(alloc, mapping, class, from_root(0))?;
     let conditions = has_one_of(alloc, columns.as_slice(), keys)?;

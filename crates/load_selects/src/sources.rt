@@ -1,11 +1,10 @@
 //! Further sources of a select, with the conditions by which they are joined. The only refusal is `Memory`.
 
-ghost use Rattle.std.specs.Prelude.{◌≡◌, ◌++◌, true, IfOk, IfErr, OnOk};
-ghost use Rattle.base_core.specs.declared.refusal.Refusal.TheVariants.{Memory};
+ghost use Rattle.std.specs.Prelude.{◌≡◌, ◌++◌, IfOk, OnOk};
 ghost use Rattle.class_mapping.specs.Mapped.{IsClass};
 ghost use Rattle.load_selects.specs.Sources as spec;
 
-use base_core::{ClassId, ListOf, Refusal, TableId};
+use base_core::{ClassId, ListOf, TableId};
 use class_layouts::number_of;
 use class_mapping::{Mapping, Relation};
 use class_sides::TableKey;
@@ -14,7 +13,7 @@ use load_columns::{
     Placement, columns_at, equal_columns, foreign_numbers, key_at_rank, key_numbers,
     place_of_table, rank_of, referred_table,
 };
-use std::alloc::Global;
+use std::alloc::{AllocError, Global};
 
 /// A source behind others, with the conditions by which it is joined.
 #[derive(Drop)]
@@ -39,12 +38,10 @@ fn keyed_source(
     placement: Placement,
     rank: u32,
     table: TableId,
-) -> Result<Further, Refusal>
+) -> Result<Further, AllocError>
     requires class { IsClass mapping.now class }
-    requires configured { mapping.now.configured ≡ true }
-    ensures source { IfOk result (λ further. further
+    ensures { IfOk result (λ further. further
         ≡ spec.keyed_source mapping.now class placement (rank, table)) }
-    ensures cause { IfErr result (λ e. e ≡ Memory) }
 {
     let before = key_at_rank(alloc, mapping, class, placement, rank.saturating_sub(1))?;
     let own = key_at_rank(alloc, mapping, class, placement, rank_tied(placement, rank))?;
@@ -64,12 +61,10 @@ fn push_ranked(
     placement: Placement,
     rank: u32,
     table: TableId,
-) -> Result<(), Refusal>
+) -> Result<(), AllocError>
     requires class { IsClass mapping.now class }
-    requires configured { mapping.now.configured ≡ true }
-    ensures table { OnOk result
+    ensures { OnOk result
         (out.new ≡ out.old ++ spec.ranked_source mapping.now class placement (rank, table)) }
-    ensures cause { IfErr result (λ e. e ≡ Memory) }
 {
     if rank == placement.leading {
         return Ok(());
@@ -85,12 +80,10 @@ pub fn push_other_tables(
     mapping: &Mapping,
     class: ClassId,
     placement: Placement,
-) -> Result<(), Refusal>
+) -> Result<(), AllocError>
     requires class { IsClass mapping.now class }
-    requires configured { mapping.now.configured ≡ true }
-    ensures tables { OnOk result
+    ensures { OnOk result
         (out.new ≡ out.old ++ spec.other_tables mapping.now class placement) }
-    ensures cause { IfErr result (λ e. e ≡ Memory) }
 {
     let tables = mapping.tables_of(class);
     for (place, table) in tables.iter().enumerate() {
@@ -106,12 +99,10 @@ pub fn other_tables(
     mapping: &Mapping,
     class: ClassId,
     placement: Placement,
-) -> Result<ListOf<Further>, Refusal>
+) -> Result<ListOf<Further>, AllocError>
     requires class { IsClass mapping.now class }
-    requires configured { mapping.now.configured ≡ true }
-    ensures tables { IfOk result
+    ensures { IfOk result
         (λ further. further ≡ spec.other_tables mapping.now class placement) }
-    ensures cause { IfErr result (λ e. e ≡ Memory) }
 {
     let mut out = ListOf::new(alloc);
     push_other_tables(&mut out, alloc, mapping, class, placement)?;
@@ -125,9 +116,8 @@ pub fn refers(
     key: TableKey,
     referred: u32,
     referring: u32,
-) -> Result<ExprList, Refusal>
-    ensures refers { IfOk result (λ es. es ≡ spec.refers mapping.now key referred referring) }
-    ensures cause { IfErr result (λ e. e ≡ Memory) }
+) -> Result<ExprList, AllocError>
+    ensures { IfOk result (λ es. es ≡ spec.refers mapping.now key referred referring) }
 {
     let numbers = key_numbers(alloc, mapping, referred_table(mapping, key))?;
     let columns = columns_at(alloc, referred, numbers.as_slice())?;
@@ -153,12 +143,10 @@ pub fn leading_table(mapping: &Mapping, relation: &Relation) -> TableId
 }
 
 /// The table of the target that is tied stands at a place, and the others behind it.
-pub fn led_from(mapping: &Mapping, relation: &Relation, first: u32) -> Result<Placement, Refusal>
+pub fn led_from(mapping: &Mapping, relation: &Relation, first: u32) -> Result<Placement, AllocError>
     requires target { IsClass mapping.now relation.now.target }
-    requires configured { mapping.now.configured ≡ true }
-    ensures placement { IfOk result
+    ensures { IfOk result
         (λ placement. placement ≡ spec.led_from mapping.now relation.now first) }
-    ensures cause { IfErr result (λ e. e ≡ Memory) }
 {
     Ok(Placement {
         leading: rank_of(mapping, relation.target, leading_table(mapping, relation))?,
@@ -167,9 +155,8 @@ pub fn led_from(mapping: &Mapping, relation: &Relation, first: u32) -> Result<Pl
 }
 
 /// A secondary table goes before those of the target.
-fn first_behind(sources: u32, far: Option<TableKey>) -> Result<u32, Refusal>
-    ensures first { IfOk result (λ first. first ≡ spec.first_behind sources far) }
-    ensures cause { IfErr result (λ e. e ≡ Memory) }
+fn first_behind(sources: u32, far: Option<TableKey>) -> Result<u32, AllocError>
+    ensures { IfOk result (λ first. first ≡ spec.first_behind sources far) }
 {
     match far {
         Some(_) => number_of(sources as usize + 1),
@@ -182,12 +169,10 @@ pub fn target_placement(
     mapping: &Mapping,
     relation: &Relation,
     sources: u32,
-) -> Result<Placement, Refusal>
+) -> Result<Placement, AllocError>
     requires target { IsClass mapping.now relation.now.target }
-    requires configured { mapping.now.configured ≡ true }
-    ensures placement { IfOk result
+    ensures { IfOk result
         (λ placement. placement ≡ spec.target_placement mapping.now relation.now sources) }
-    ensures cause { IfErr result (λ e. e ≡ Memory) }
 {
     let first = first_behind(sources, relation.far)?;
     led_from(mapping, relation, first)
@@ -200,12 +185,10 @@ pub fn referred_place(
     class: ClassId,
     placement: Placement,
     key: TableKey,
-) -> Result<u32, Refusal>
+) -> Result<u32, AllocError>
     requires class { IsClass mapping.now class }
-    requires configured { mapping.now.configured ≡ true }
-    ensures place { IfOk result
+    ensures { IfOk result
         (λ place. place ≡ spec.referred_place mapping.now class placement key) }
-    ensures cause { IfErr result (λ e. e ≡ Memory) }
 {
     let table = referred_table(mapping, key);
     place_of_table(mapping, class, placement, table)
@@ -219,12 +202,10 @@ fn referring_source(
     placement: Placement,
     key: TableKey,
     place: u32,
-) -> Result<Further, Refusal>
+) -> Result<Further, AllocError>
     requires class { IsClass mapping.now class }
-    requires configured { mapping.now.configured ≡ true }
-    ensures source { IfOk result (λ further. further
+    ensures { IfOk result (λ further. further
         ≡ spec.referring_source mapping.now class placement key place) }
-    ensures cause { IfErr result (λ e. e ≡ Memory) }
 {
     let referred = referred_place(mapping, class, placement, key)?;
     Ok(Further {
@@ -240,10 +221,9 @@ fn referred_source(
     key: TableKey,
     referring: u32,
     place: u32,
-) -> Result<Further, Refusal>
-    ensures source { IfOk result
+) -> Result<Further, AllocError>
+    ensures { IfOk result
         (λ further. further ≡ spec.referred_source mapping.now key referring place) }
-    ensures cause { IfErr result (λ e. e ≡ Memory) }
 {
     Ok(Further {
         table: referred_table(mapping, key),
@@ -259,12 +239,10 @@ fn tied_source(
     placement: Placement,
     relation: &Relation,
     sources: u32,
-) -> Result<Further, Refusal>
+) -> Result<Further, AllocError>
     requires class { IsClass mapping.now class }
-    requires configured { mapping.now.configured ≡ true }
-    ensures source { IfOk result (λ further. further
+    ensures { IfOk result (λ further. further
         ≡ spec.tied_source mapping.now class placement relation.now sources) }
-    ensures cause { IfErr result (λ e. e ≡ Memory) }
 {
     if relation.many {
         return referring_source(alloc, mapping, class, placement, relation.foreign, sources);
@@ -281,12 +259,10 @@ fn tied_sources(
     placement: Placement,
     relation: &Relation,
     sources: u32,
-) -> Result<ListOf<Further>, Refusal>
+) -> Result<ListOf<Further>, AllocError>
     requires class { IsClass mapping.now class }
-    requires configured { mapping.now.configured ≡ true }
-    ensures sources { IfOk result (λ further. further
+    ensures { IfOk result (λ further. further
         ≡ spec.tied_by mapping.now class placement relation.now sources relation.now.far) }
-    ensures cause { IfErr result (λ e. e ≡ Memory) }
 {
     let mut out = ListOf::new(alloc);
     match relation.far {
@@ -311,13 +287,11 @@ pub fn related_sources(
     placement: Placement,
     relation: &Relation,
     sources: u32,
-) -> Result<ListOf<Further>, Refusal>
+) -> Result<ListOf<Further>, AllocError>
     requires class { IsClass mapping.now class }
     requires target { IsClass mapping.now relation.now.target }
-    requires configured { mapping.now.configured ≡ true }
-    ensures sources { IfOk result (λ further. further
+    ensures { IfOk result (λ further. further
         ≡ spec.related_sources mapping.now class placement relation.now sources) }
-    ensures cause { IfErr result (λ e. e ≡ Memory) }
 {
     let mut out = tied_sources(alloc, mapping, class, placement, relation, sources)?;
     let behind = target_placement(mapping, relation, sources)?;

@@ -48,7 +48,7 @@ End = Option ObjId
 
 -- ---- the select of a key
 
-pub key_plain : (mapped : Mapped) (class : ClassId) (key : List Value) (r : Result Select Refusal) → HasHierarchies mapped → IsClass mapped class → key_fits mapped class key ≡ true → IfOk r (λ s. s ≡ key_select mapped class key)
+pub key_plain : {E : Type 0} (mapped : Mapped) (class : ClassId) (key : List Value) (r : Result Select E) → HasHierarchies mapped → IsClass mapped class → key_fits mapped class key ≡ true → IfOk r (λ s. s ≡ key_select mapped class key)
     → IfOk r (IsPlainSelect mapped.schema)
 key_plain mapped class key (Ok s) has less fits made =
     subst (IsPlainSelect mapped.schema) (sym made) (key_is_plain mapped class key has less (sym (keys_alike mapped class key has (class_tables mapped class has less)) ∙ fits))

@@ -51,14 +51,18 @@ expired_is mapped relation graph object own attrs b is named asked =
 pub asked_by : (slice attrs : List AttrNo) (own : Object) (b : Bool) → slice ≡ attrs → b ≡ is_expired_among slice own → b ≡ is_expired_among attrs own
 asked_by slice attrs own b seen asked = asked ∙ ap (λ (xs : List AttrNo). is_expired_among xs own) seen
 
-pub key_is : (mapped : Mapped) (relation : Relation) (graph : Graph) (object : ObjId) (own : Object) (attrs shown : List AttrNo) (r : Result (List Value) Refusal) → own ≡ object_at graph object → attrs ≡ foreign_attrs mapped own.class relation
+pub key_is : {E : Type 0} (mapped : Mapped) (relation : Relation) (graph : Graph) (object : ObjId) (own : Object) (attrs shown : List AttrNo) (r : Result (List Value) E) → own ≡ object_at graph object → attrs ≡ foreign_attrs mapped own.class relation
     → shown ≡ attrs → IfOk r (λ values. values ≡ values_at shown own) → IfOk r (λ key. key ≡ foreign_key mapped relation (object_at graph object))
 key_is mapped relation graph object own attrs shown (Ok values) is named seen read =
     read ∙ ap (λ (xs : List AttrNo). values_at xs own) (seen ∙ named) ∙ ap (λ (o : Object). foreign_key mapped relation o) is
 key_is mapped relation graph object own attrs shown (Err e) is named seen read = tt
 
+pub class_told : {A E : Type 0} (mapped : Mapped) (class : ClassId) (r : Result A E) → IsClass mapped class → IfOk r (λ _. IsClass mapped class)
+class_told mapped class (Ok x) less = less
+class_told mapped class (Err e) less = tt
+
 -- without a NULL it is a key of the target
-pub key_told : (mapped : Mapped) (relation : Relation) (graph : Graph) (object : ObjId) (place : RelNo) (own : Object) (r : Result (List Value) Refusal) → HasHierarchies mapped → AreRelated mapped → ObjectFits mapped own → own ≡ object_at graph object
+pub key_told : {E : Type 0} (mapped : Mapped) (relation : Relation) (graph : Graph) (object : ObjId) (place : RelNo) (own : Object) (r : Result (List Value) E) → HasHierarchies mapped → AreRelated mapped → ObjectFits mapped own → own ≡ object_at graph object
     → length own.cells ≡ length (attributes_of mapped own.class) → place.0 < length (relations_of mapped (object_at graph object).class) → relation ≡ relation_of mapped (object_at graph object).class place → relation.many ≡ false
     → IfOk r (λ key. key ≡ foreign_key mapped relation (object_at graph object)) → IfOk r (λ key. has_null key ≡ false → key_fits mapped relation.target key ≡ true)
 key_told mapped relation graph object place own (Ok key) has related fits is long within which one read = λ given.

@@ -2,11 +2,10 @@
 
 ghost use Rattle.std.specs.Prelude.{◌≡◌, true, false, None, IfErr, IfOk};
 ghost use Rattle.std.specs.List.{AllByRecursion};
-ghost use Rattle.base_core.specs.declared.refusal.Refusal.TheVariants.{Memory};
 ghost use Rattle.schema_core.specs.Tables.{has_null, is_null};
 ghost use Rattle.class_mapping.specs.Mapped.{IsClass, root_of};
 ghost use Rattle.object_arena.specs.Fit.{IsFit, end_fits, key_fits};
-ghost use Rattle.object_arena.specs.Graph.{IsObject};
+ghost use Rattle.object_arena.specs.Graph.{Graph, IsObject};
 ghost use Rattle.keeper_core.specs.Alone.{alone};
 ghost use Rattle.keeper_core.specs.Beside.{moment_beside};
 ghost use Rattle.keeper_core.specs.Moment.{Runs};
@@ -28,9 +27,8 @@ use keeper_core::{Keeper, Notes};
 use load_calls::read;
 use load_rows::take_row;
 use load_selects::key_select;
-use mapping_laws::has_hierarchies;
 use object_arena::Arena;
-use std::alloc::Global;
+use std::alloc::{AllocError, Global};
 use std::mem::drop;
 
 /// The select of the row of a class under a key.
@@ -39,42 +37,36 @@ fn select_of_key(
     mapping: &Mapping,
     class: ClassId,
     key: &Key,
-) -> Result<Select, Refusal>
-    requires configured { mapping.now.configured ≡ true }
+) -> Result<Select, AllocError>
     requires class { IsClass mapping.now class }
     requires key { key_fits mapping.now class key.now ≡ true }
     ensures select { IfOk result (λ s. s ≡ key_select mapping.now class key.now) }
     ensures plain { IfOk result (IsPlainSelect mapping.now.schema) }
     ensures hierarchies { IfOk result (λ _. HasHierarchies mapping.now) }
-    ensures cause { IfErr result (λ e. e ≡ Memory) }
 {
-    has_hierarchies(mapping);
+    let _ = mapping.schema();
     key_select(alloc, mapping, class, key)
 }
 
 /// The row of a class under a key, if there is one.
 fn read_key<K: Keeper>(
     alloc: Global,
-    arena: &Arena,
     mapping: &Mapping,
     keeper: &mut K,
     class: ClassId,
     key: &Key,
     notes: &mut Notes,
 ) -> Result<RowList, Refusal>
-    requires configured { mapping.now.configured ≡ true }
     requires class { IsClass mapping.now class }
     requires key { key_fits mapping.now class key.now ≡ true }
-    requires ready { IsReady mapping.now.schema (K.moment keeper.old) }
-    ensures step { Runs (moment_beside K.moment) (λ rows. rows)
+    requires ready { IsReady (K.moment keeper.old) }
+    ensures step { (graph : Graph) → Runs (moment_beside K.moment) (λ rows. rows)
         (read mapping.now.schema (key_select mapping.now class key.now))
-        (loading arena.now notes.old, keeper.old) result
-        (loading arena.now notes.new, keeper.new) }
-    ensures stays { StaysReady mapping.now.schema result (K.moment keeper.new) }
+        (loading graph notes.old, keeper.old) result (loading graph notes.new, keeper.new) }
+    ensures stays { StaysReady (K.moment keeper.old) result (K.moment keeper.new) }
     ensures rows { IfOk result (AllByRecursion (IsRowOf mapping.now class)) }
     ensures refuses { IfErr result (CanRefuseRows mapping.now) }
 {
-    let _ = arena.count();
     let wanted = select_of_key(alloc, mapping, class, key)?;
     let rows = read(alloc, mapping, keeper, &wanted, notes);
     drop(wanted);
@@ -91,7 +83,6 @@ fn take_first(
     notes: &mut Notes,
 ) -> Result<Option<ObjId>, Refusal>
     requires class { IsClass mapping.now class }
-    requires configured { mapping.now.configured ≡ true }
     requires fit { IsFit mapping.now arena.old }
     requires rows { AllByRecursion (IsRowOf mapping.now class) rows.now }
     ensures step { Runs alone (λ end. end) (spec.take_first mapping.now class rows.now)
@@ -126,23 +117,22 @@ pub fn load_key<K: Keeper>(
     key: &Key,
     notes: &mut Notes,
 ) -> Result<Option<ObjId>, Refusal>
-    requires configured { mapping.now.configured ≡ true }
     requires fit { IsFit mapping.now arena.old }
     requires class { IsClass mapping.now class }
     requires key { key_fits mapping.now class key.now ≡ true }
-    requires ready { IsReady mapping.now.schema (K.moment keeper.old) }
+    requires ready { IsReady (K.moment keeper.old) }
     ensures step { Runs (moment_beside K.moment) (λ end. end)
         (spec.load_key mapping.now class key.now)
         (loading arena.old notes.old, keeper.old) result
         (loading arena.new notes.new, keeper.new) }
-    ensures stays { StaysReady mapping.now.schema result (K.moment keeper.new) }
+    ensures stays { StaysReady (K.moment keeper.old) result (K.moment keeper.new) }
     ensures of { IfOk result
         (λ end. end_fits arena.new.roots (root_of mapping.now class) end ≡ true) }
     ensures grows { Grows arena.old arena.new }
     ensures fits { IsFit mapping.now arena.new }
     ensures refuses { IfErr result (CanRefuseRows mapping.now) }
 {
-    let rows = read_key(alloc, &*arena, mapping, keeper, class, key, notes)?;
+    let rows = read_key(alloc, mapping, keeper, class, key, notes)?;
     take_first(alloc, arena, mapping, class, &rows, notes)
 }
 
@@ -185,16 +175,15 @@ pub fn find_or_load<K: Keeper>(
     key: &Key,
     notes: &mut Notes,
 ) -> Result<Option<ObjId>, Refusal>
-    requires configured { mapping.now.configured ≡ true }
     requires fit { IsFit mapping.now arena.old }
     requires class { IsClass mapping.now class }
     requires key { has_null key.now ≡ false → key_fits mapping.now class key.now ≡ true }
-    requires ready { IsReady mapping.now.schema (K.moment keeper.old) }
+    requires ready { IsReady (K.moment keeper.old) }
     ensures step { Runs (moment_beside K.moment) (λ end. end)
         (spec.find_or_load mapping.now class key.now)
         (loading arena.old notes.old, keeper.old) result
         (loading arena.new notes.new, keeper.new) }
-    ensures stays { StaysReady mapping.now.schema result (K.moment keeper.new) }
+    ensures stays { StaysReady (K.moment keeper.old) result (K.moment keeper.new) }
     ensures of { IfOk result
         (λ end. end_fits arena.new.roots (root_of mapping.now class) end ≡ true) }
     ensures grows { Grows arena.old arena.new }

@@ -1,20 +1,19 @@
 //! The cells of foreign keys.
 
-ghost use Rattle.std.specs.Prelude.{◌≡◌, true, is_none, IfOk, IfErr};
+ghost use Rattle.std.specs.Prelude.{◌≡◌, true, is_none, IfOk};
 ghost use Rattle.std.specs.List.{position};
 ghost use Rattle.std.specs.Option.{option_copied};
-ghost use Rattle.base_core.specs.declared.refusal.Refusal.TheVariants.{Memory};
 ghost use Rattle.schema_core.specs.Tables.{value_or_null};
 ghost use Rattle.class_mapping.specs.Mapped.{IsClass};
 ghost use Rattle.relations.specs.Parents.{is_column};
 ghost use Rattle.load_targets.specs.ForeignKeys as spec;
 
-use base_core::{AttrNo, ClassId, Copied, Key, ListOf, Name, Refusal, TableId, Value};
+use base_core::{AttrNo, ClassId, Copied, Key, ListOf, Name, TableId, Value};
 use class_layouts::number_of;
 use class_mapping::{Attribute, Mapping, Relation};
 use class_sides::names_of;
 use object_arena::Object;
-use std::alloc::Global;
+use std::alloc::{AllocError, Global};
 
 fn place_named(attributes: &[Attribute], table: TableId, name: &Name) -> Option<usize>
     ensures { result ≡ position (is_column table name.now) attributes.now }
@@ -23,9 +22,8 @@ fn place_named(attributes: &[Attribute], table: TableId, name: &Name) -> Option<
 }
 
 /// The attribute of the column of a name; where there is none, a number that no attribute has.
-fn attr_named(attributes: &[Attribute], table: TableId, name: &Name) -> Result<AttrNo, Refusal>
-    ensures attr { IfOk result (λ attr. attr ≡ spec.attr_named attributes.now table name.now) }
-    ensures cause { IfErr result (λ e. e ≡ Memory) }
+fn attr_named(attributes: &[Attribute], table: TableId, name: &Name) -> Result<AttrNo, AllocError>
+    ensures { IfOk result (λ attr. attr ≡ spec.attr_named attributes.now table name.now) }
 {
     match place_named(attributes, table, name) {
         Some(place) => Ok(AttrNo(number_of(place)?)),
@@ -33,20 +31,18 @@ fn attr_named(attributes: &[Attribute], table: TableId, name: &Name) -> Result<A
     }
 }
 
-/// The attributes of a class that are the columns of a relationship's foreign key, in the key's order; in the place of a column of
-/// which the class has no attribute, how many attributes it has. The only refusal is `Memory`.
+/// The attributes of a class that are the columns of a relationship's foreign key, in the key's order; in the place of a column
+/// of which the class has no attribute, how many attributes it has.
 #[tactic(auto, unfolding(crate::specs::ForeignKeys::foreign_attrs))]
 pub fn foreign_attrs(
     alloc: Global,
     mapping: &Mapping,
     class: ClassId,
     relation: &Relation,
-) -> Result<ListOf<AttrNo>, Refusal>
+) -> Result<ListOf<AttrNo>, AllocError>
     requires class { IsClass mapping.now class }
-    requires configured { mapping.now.configured ≡ true }
-    ensures attrs { IfOk result
+    ensures { IfOk result
         (λ attrs. attrs ≡ spec.foreign_attrs mapping.now class relation.now) }
-    ensures cause { IfErr result (λ e. e ≡ Memory) }
 {
     let mut attrs = ListOf::new(alloc);
     let attributes = mapping.attributes(class);
@@ -83,9 +79,8 @@ pub(crate) fn is_expired_among(object: &Object, attrs: &[AttrNo]) -> bool
     attrs.iter().any(|attr| is_expired(object, *attr))
 }
 
-fn value_at(object: &Object, attr: AttrNo) -> Result<Value, Refusal>
-    ensures value { IfOk result (λ value. value ≡ spec.value_at object.now attr) }
-    ensures cause { IfErr result (λ e. e ≡ Memory) }
+fn value_at(object: &Object, attr: AttrNo) -> Result<Value, AllocError>
+    ensures { IfOk result (λ value. value ≡ spec.value_at object.now attr) }
 {
     match value_of(object, attr) {
         Some(value) => Ok(value.copied()?),
@@ -93,10 +88,9 @@ fn value_at(object: &Object, attr: AttrNo) -> Result<Value, Refusal>
     }
 }
 
-/// What these cells hold, NULL in the place of one that is expired. The only refusal is `Memory`.
-pub fn values_at(alloc: Global, object: &Object, attrs: &[AttrNo]) -> Result<Key, Refusal>
-    ensures values { IfOk result (λ values. values ≡ spec.values_at attrs.now object.now) }
-    ensures cause { IfErr result (λ e. e ≡ Memory) }
+/// What these cells hold, NULL in the place of one that is expired.
+pub fn values_at(alloc: Global, object: &Object, attrs: &[AttrNo]) -> Result<Key, AllocError>
+    ensures { IfOk result (λ values. values ≡ spec.values_at attrs.now object.now) }
 {
     let mut values = ListOf::new(alloc);
     for attr in attrs {

@@ -1,6 +1,6 @@
 //! The reading of any link.
 
-ghost use Rattle.std.specs.Prelude.{◌≡◌, ◌<◌, true, length, IfErr};
+ghost use Rattle.std.specs.Prelude.{◌≡◌, ◌<◌, length, IfErr};
 ghost use Rattle.class_mapping.specs.Mapped.{relations_of};
 ghost use Rattle.object_arena.specs.declared.object.State.TheVariants.{Persistent};
 ghost use Rattle.object_arena.specs.Fit.{IsFit, relation_of};
@@ -38,17 +38,16 @@ pub fn load_lazy<K: Keeper>(
     place: RelNo,
     notes: &mut Notes,
 ) -> Result<(), Refusal>
-    requires configured { mapping.now.configured ≡ true }
     requires fit { IsFit mapping.now arena.old }
     requires object { IsObject arena.old object }
     requires persistent { (object_at arena.old object).state ≡ Persistent }
     requires place { place.0 < length (relations_of mapping.now (object_at arena.old object).class) }
-    requires ready { IsReady mapping.now.schema (K.moment keeper.old) }
+    requires ready { IsReady (K.moment keeper.old) }
     ensures step { Runs (moment_beside K.moment) (λ u. u)
         (spec.load_lazy mapping.now object place)
         (loading arena.old notes.old, keeper.old) result
         (loading arena.new notes.new, keeper.new) }
-    ensures stays { StaysReady mapping.now.schema result (K.moment keeper.new) }
+    ensures stays { StaysReady (K.moment keeper.old) result (K.moment keeper.new) }
     ensures grows { Grows arena.old arena.new }
     ensures fits { IsFit mapping.now arena.new }
     ensures refuses { IfErr result (CanRefuseLoad mapping.now object) }

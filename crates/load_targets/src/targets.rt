@@ -1,7 +1,6 @@
 //! The reading of a many-to-one link.
 
 ghost use Rattle.std.specs.Prelude.{◌≡◌, ◌<◌, true, false, None, length, IfErr, IfOk};
-ghost use Rattle.base_core.specs.declared.refusal.Refusal.TheVariants.{Memory};
 ghost use Rattle.schema_core.specs.Tables.{has_null};
 ghost use Rattle.class_mapping.specs.Mapped.{IsClass, relations_of, root_of};
 ghost use Rattle.object_arena.specs.declared.object.State.TheVariants.{Persistent};
@@ -25,9 +24,8 @@ use class_mapping::{Mapping, Relation};
 use keeper_core::{Keeper, Notes};
 use load_calls::refresh;
 use load_rows::{fill_end, relation_at};
-use mapping_laws::has_hierarchies;
 use object_arena::Arena;
-use std::alloc::Global;
+use std::alloc::{AllocError, Global};
 
 /// The expired cells of an object are read where one of the foreign key is among them.
 #[tactic(auto, unfolding(crate::specs::Targets::refresh_key))]
@@ -40,16 +38,15 @@ fn refresh_key<K: Keeper>(
     child: ObjId,
     notes: &mut Notes,
 ) -> Result<(), Refusal>
-    requires configured { mapping.now.configured ≡ true }
     requires fit { IsFit mapping.now arena.old }
     requires child { IsObject arena.old child }
     requires persistent { (object_at arena.old child).state ≡ Persistent }
-    requires ready { IsReady mapping.now.schema (K.moment keeper.old) }
+    requires ready { IsReady (K.moment keeper.old) }
     ensures step { Runs (moment_beside K.moment) (λ u. u)
         (spec.refresh_key mapping.now relation.now child)
         (loading arena.old notes.old, keeper.old) result
         (loading arena.new notes.new, keeper.new) }
-    ensures stays { StaysReady mapping.now.schema result (K.moment keeper.new) }
+    ensures stays { StaysReady (K.moment keeper.old) result (K.moment keeper.new) }
     ensures fits { IsFit mapping.now arena.new }
     ensures classes { classes_of arena.new ≡ classes_of arena.old }
     ensures refuses { IfErr result (CanRefuse mapping.now child) }
@@ -65,8 +62,8 @@ fn refresh_key<K: Keeper>(
     refresh(alloc, arena, mapping, keeper, child, notes)
 }
 
-/// What the cells of the foreign key of a many-to-one relationship hold, NULL in the place of one that is expired: a key of its target,
-/// unless it has a NULL. The only refusal is `Memory`.
+/// What the cells of the foreign key of a many-to-one relationship hold, NULL in the place of one that is expired: a key of its
+/// target, unless it has a NULL.
 pub fn target_key(
     alloc: Global,
     arena: &Arena,
@@ -74,8 +71,7 @@ pub fn target_key(
     relation: &Relation,
     child: ObjId,
     place: RelNo,
-) -> Result<Key, Refusal>
-    requires configured { mapping.now.configured ≡ true }
+) -> Result<Key, AllocError>
     requires fit { IsFit mapping.now arena.now }
     requires child { IsObject arena.now child }
     requires place { place.0 < length (relations_of mapping.now (object_at arena.now child).class) }
@@ -87,9 +83,9 @@ pub fn target_key(
     ensures target { IfOk result (λ _. IsClass mapping.now relation.now.target) }
     ensures fits { IfOk result (λ key. has_null key ≡ false
         → key_fits mapping.now relation.now.target key ≡ true) }
-    ensures cause { IfErr result (λ e. e ≡ Memory) }
 {
-    let _ = (has_hierarchies(mapping), mapping.is_configured(), place);
+    let _ = mapping.schema();
+    let _ = place;
     let record = arena.object(child);
     let attrs = foreign_attrs(alloc, mapping, record.class, relation)?;
     values_at(alloc, record, attrs.as_slice())
@@ -106,19 +102,18 @@ fn read_target<K: Keeper>(
     place: RelNo,
     notes: &mut Notes,
 ) -> Result<Option<ObjId>, Refusal>
-    requires configured { mapping.now.configured ≡ true }
     requires fit { IsFit mapping.now arena.old }
     requires child { IsObject arena.old child }
     requires place { place.0 < length (relations_of mapping.now (object_at arena.old child).class) }
     requires relation { relation.now
         ≡ relation_of mapping.now (object_at arena.old child).class place }
     requires one { relation.now.many ≡ false }
-    requires ready { IsReady mapping.now.schema (K.moment keeper.old) }
+    requires ready { IsReady (K.moment keeper.old) }
     ensures step { Runs (moment_beside K.moment) (λ end. end)
         (spec.read_target mapping.now relation.now child)
         (loading arena.old notes.old, keeper.old) result
         (loading arena.new notes.new, keeper.new) }
-    ensures stays { StaysReady mapping.now.schema result (K.moment keeper.new) }
+    ensures stays { StaysReady (K.moment keeper.old) result (K.moment keeper.new) }
     ensures of { IfOk result (λ end. end_fits arena.new.roots
         (root_of mapping.now relation.now.target) end ≡ true) }
     ensures grows { Grows arena.old arena.new }
@@ -146,18 +141,17 @@ pub fn load_target<K: Keeper>(
     place: RelNo,
     notes: &mut Notes,
 ) -> Result<(), Refusal>
-    requires configured { mapping.now.configured ≡ true }
     requires fit { IsFit mapping.now arena.old }
     requires child { IsObject arena.old child }
     requires persistent { (object_at arena.old child).state ≡ Persistent }
     requires place { place.0 < length (relations_of mapping.now (object_at arena.old child).class) }
     requires one { (relation_of mapping.now (object_at arena.old child).class place).many ≡ false }
-    requires ready { IsReady mapping.now.schema (K.moment keeper.old) }
+    requires ready { IsReady (K.moment keeper.old) }
     ensures step { Runs (moment_beside K.moment) (λ u. u) (spec.load_target mapping.now
         (relation_of mapping.now (object_at arena.old child).class place) child place)
         (loading arena.old notes.old, keeper.old) result
         (loading arena.new notes.new, keeper.new) }
-    ensures stays { StaysReady mapping.now.schema result (K.moment keeper.new) }
+    ensures stays { StaysReady (K.moment keeper.old) result (K.moment keeper.new) }
     ensures grows { Grows arena.old arena.new }
     ensures fits { IsFit mapping.now arena.new }
     ensures refuses { IfErr result (CanRefuseLoad mapping.now child) }
@@ -168,5 +162,5 @@ pub fn load_target<K: Keeper>(
     let relation = relation_at(mapping, arena.object(child).class, place);
     refresh_key(alloc, arena, mapping, keeper, relation, child, notes)?;
     let end = read_target(alloc, arena, mapping, keeper, relation, child, place, notes)?;
-    fill_end(arena, mapping, child, place, end, notes)
+    Ok(fill_end(arena, mapping, child, place, end, notes)?)
 }

@@ -1,6 +1,6 @@
 //! Plays lines.
 
-ghost use Rattle.std.specs.Prelude.{◌≡◌, None, true, false, IfErr, OnOk};
+ghost use Rattle.std.specs.Prelude.{◌≡◌, None, false, IfErr, OnOk};
 ghost use Rattle.object_arena.specs.Fit.{IsFit};
 ghost use Rattle.keeper_core.specs.Programs.{ends_early};
 ghost use Rattle.load_calls.specs.Reading.{IsReady};
@@ -32,10 +32,9 @@ fn tell<K: Keeper>(
     act: &str,
     page: &mut Page,
 ) -> Result<(), Refusal>
-    requires configured { mapping.now.configured ≡ true }
     requires fit { IsFit mapping.now arena.old }
-    requires ready { IsReady mapping.now.schema (K.moment keeper.old) }
-    ensures stays { OnOk result (IsReady mapping.now.schema (K.moment keeper.new)) }
+    requires ready { IsReady (K.moment keeper.old) }
+    ensures stays { OnOk result (IsReady (K.moment keeper.new)) }
     ensures fits { IsFit mapping.now arena.new }
 {
     let mut notes = ListOf::new(page.alloc());
@@ -56,10 +55,9 @@ fn step<K: Keeper>(
     act: &str,
     page: &mut Page,
 ) -> Result<(), Refusal>
-    requires configured { mapping.now.configured ≡ true }
     requires fit { IsFit mapping.now arena.old }
-    requires ready { IsReady mapping.now.schema (K.moment keeper.old) }
-    ensures stays { OnOk result (IsReady mapping.now.schema (K.moment keeper.new)) }
+    requires ready { IsReady (K.moment keeper.old) }
+    ensures stays { OnOk result (IsReady (K.moment keeper.new)) }
     ensures fits { IsFit mapping.now arena.new }
 {
     let (letter, words) = parted(act, ' ');
@@ -77,7 +75,6 @@ fn play_acts<K: Keeper>(
     line: &str,
     page: &mut Page,
 ) -> Result<(), Refusal>
-    requires configured { mapping.now.configured ≡ true }
     requires fit { IsFit mapping.now arena.old }
     requires fresh { (K.moment keeper.old).target ≡ None }
 {
@@ -92,7 +89,6 @@ fn play_acts<K: Keeper>(
 
 /// Plays a line over a keeper that was given no target.
 fn play_over<K: Keeper>(mapping: &Mapping, keeper: &mut K, line: &str, page: &mut Page)
-    requires configured { mapping.now.configured ≡ true }
     requires fresh { (K.moment keeper.old).target ≡ None }
 {
     let mut arena = Arena::new(page.alloc());
@@ -110,9 +106,7 @@ struct Line<'x> {
 
 impl OverKeepers for Line<'_> {
     fn run<K: Keeper>(&mut self, keeper: &mut K) {
-        if self.mapping.is_configured() {
-            play_over(self.mapping, keeper, self.line, &mut self.page);
-        }
+        play_over(self.mapping, keeper, self.line, &mut self.page);
     }
 }
 
@@ -123,8 +117,9 @@ fn play_line(mapping: &Mapping, line: &str, page: &mut Page) {
         line,
         page: Page::new(page.alloc()),
     };
-    let done = over_memory(page.alloc(), &[], &mut played);
-    page.note_done(done);
+    if over_memory(page.alloc(), &[], &mut played).is_err() {
+        page.lack();
+    }
     page.put(played.page.text());
     page.lack_of(&played.page);
     page.push('\n');
@@ -135,10 +130,12 @@ pub(crate) fn play(lines: &str, page: &mut Page) {
     let (declarations, lines) = parted(lines, '\n');
     let alloc = page.alloc();
     let hooks = Hooks::new(alloc);
-    let mut mapping = Mapping::new(alloc);
-    let done = declare_all(alloc, &hooks, &mut mapping, declarations);
-    page.note_done(done);
-    for line in lines.lines() {
-        play_line(&mapping, line, page);
+    match declare_all(alloc, &hooks, declarations) {
+        Ok(mapping) => {
+            for line in lines.lines() {
+                play_line(&mapping, line, page);
+            }
+        }
+        Err(refusal) => page.note_done(Err(refusal)),
     }
 }

@@ -28,7 +28,7 @@ pub use loader_laws::{
     selectin_loads_leave_the_rest_always,
 };
 pub use member_laws::{batch_is_paired, members_are_paired};
-pub use plain_loads::{loads_are_plain, main_selects_stay};
+pub use plain_loads::{loads_are_plain, main_selects_stay, queries_are_plain};
 pub use plain_selects::main_selects_are_plain;
 pub use strategy_laws::{
     lazy_loads_fill_pairs, lazy_loads_fill_what_is_related, lazy_loads_lead_to_targets,

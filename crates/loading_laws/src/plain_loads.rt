@@ -7,6 +7,7 @@ ghost use Rattle.main_selects.specs.MainSelect.{main_select};
 ghost use Rattle.load_calls.specs.Reading.{World};
 ghost use Rattle.load_queries.specs.Queries.{load_select};
 ghost use Rattle.load_queries.specs.Joined.{load_joined};
+ghost use Rattle.load_queries.specs.Selectin.{load_objects, load_query};
 
 /// Without options the main select of a query is the query's own select.
 pub fn main_selects_stay()
@@ -19,4 +20,10 @@ pub fn main_selects_stay()
 pub fn loads_are_plain()
     ensures { (mapped : Mapped) (query : ObjectQuery) (world : World) → query.joined ≡ []
         → load_joined mapped query world ≡ load_select mapped query world }
+{}
+
+/// So the whole load of such a query, with its further options, is the load by its own select with them.
+pub fn queries_are_plain()
+    ensures { (mapped : Mapped) (query : ObjectQuery) (world : World) → query.joined ≡ []
+        → load_query mapped query world ≡ load_objects mapped query world }
 {}

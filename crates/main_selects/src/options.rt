@@ -1,7 +1,6 @@
 //! What a joined option adds to a select: its sources, and what it reads of them. The only refusal is `Memory`.
 
-ghost use Rattle.std.specs.Prelude.{◌≡◌, ◌==◌, ◌++◌, true, length, suc, map, fold, IfOk, IfErr, OnOk, if◌then◌else◌};
-ghost use Rattle.base_core.specs.declared.refusal.Refusal.TheVariants.{Memory};
+ghost use Rattle.std.specs.Prelude.{◌≡◌, ◌==◌, ◌++◌, true, length, suc, map, fold, IfOk, OnOk, if◌then◌else◌};
 ghost use Rattle.schema_core.specs.Catalog.{spec_of};
 ghost use Rattle.class_mapping.specs.Mapped.{IsClass, root_table};
 ghost use Rattle.alias_names.specs.Names.{free_alias, taken_names};
@@ -10,7 +9,7 @@ ghost use Rattle.load_selects.specs.Sources.{target_placement};
 ghost use Rattle.main_selects.specs.MainSelect as spec;
 
 use alias_names::{free_alias, table_name, taken_names};
-use base_core::{ClassId, ListOf, Name, Refusal, TableId};
+use base_core::{ClassId, ListOf, Name, TableId};
 use class_layouts::number_of;
 use class_mapping::{Mapping, Relation};
 use expr_types::{CopiedIn, ExprList, Joined, Origin, Select};
@@ -20,7 +19,7 @@ use load_columns::{
 use load_selects::{
     Further, is_of_branch, push_items as push_columns_as_items, related_sources, target_placement,
 };
-use std::alloc::Global;
+use std::alloc::{AllocError, Global};
 
 /// An alias for a table that no table and no source of a select has.
 fn alias_for(
@@ -28,11 +27,10 @@ fn alias_for(
     mapping: &Mapping,
     select: &Select,
     table: TableId,
-) -> Result<Name, Refusal>
-    ensures alias { IfOk result (λ alias. alias
+) -> Result<Name, AllocError>
+    ensures { IfOk result (λ alias. alias
         ≡ free_alias (taken_names mapping.now.schema select.now)
         (spec_of mapping.now.schema table).name) }
-    ensures cause { IfErr result (λ e. e ≡ Memory) }
 {
     let taken = taken_names(alloc, mapping, select)?;
     let name = table_name(alloc, mapping, table)?;
@@ -45,10 +43,9 @@ fn left_joined(
     mapping: &Mapping,
     select: &Select,
     further: Further,
-) -> Result<Joined, Refusal>
-    ensures join { IfOk result
+) -> Result<Joined, AllocError>
+    ensures { IfOk result
         (λ join. join ≡ spec.left_joined mapping.now.schema select.now further) }
-    ensures cause { IfErr result (λ e. e ≡ Memory) }
 {
     let table = further.table;
     let alias = alias_for(alloc, mapping, select, table)?;
@@ -70,13 +67,11 @@ fn push_branch(
     class: ClassId,
     placement: Placement,
     table: TableId,
-) -> Result<(), Refusal>
+) -> Result<(), AllocError>
     requires class { IsClass mapping.now class }
-    requires configured { mapping.now.configured ≡ true }
-    ensures on { OnOk result (on.new
+    ensures { OnOk result (on.new
         ≡ (if table.0 == (root_table mapping.now class).0
         then on.old ++ is_of_branch mapping.now class placement else on.old)) }
-    ensures cause { IfErr result (λ e. e ≡ Memory) }
 {
     if table.0 != mapping.root_table(class).0 {
         return Ok(());
@@ -92,12 +87,10 @@ fn within_branch(
     class: ClassId,
     placement: Placement,
     further: &Further,
-) -> Result<Further, Refusal>
+) -> Result<Further, AllocError>
     requires class { IsClass mapping.now class }
-    requires configured { mapping.now.configured ≡ true }
-    ensures source { IfOk result
+    ensures { IfOk result
         (λ new. new ≡ spec.within_branch mapping.now class placement further.now) }
-    ensures cause { IfErr result (λ e. e ≡ Memory) }
 {
     let table = further.table;
     let mut on = further.on.copied_in(alloc)?;
@@ -111,10 +104,9 @@ fn push_left_join(
     alloc: Global,
     mapping: &Mapping,
     further: Further,
-) -> Result<(), Refusal>
-    ensures joined { OnOk result
+) -> Result<(), AllocError>
+    ensures { OnOk result
         (select.new ≡ spec.with_left_join mapping.now.schema select.old further) }
-    ensures cause { IfErr result (λ e. e ≡ Memory) }
 {
     let join = left_joined(alloc, mapping, &*select, further)?;
     select.joins.push(join)
@@ -129,13 +121,11 @@ fn push_left_joins(
     class: ClassId,
     placement: Placement,
     further: &[Further],
-) -> Result<(), Refusal>
+) -> Result<(), AllocError>
     requires class { IsClass mapping.now class }
-    requires configured { mapping.now.configured ≡ true }
-    ensures joined { OnOk result (select.new
+    ensures { OnOk result (select.new
         ≡ fold (spec.with_left_join mapping.now.schema) select.old
         (map (spec.within_branch mapping.now class placement) further.now)) }
-    ensures cause { IfErr result (λ e. e ≡ Memory) }
 {
     for source in further {
         let source = within_branch(alloc, mapping, class, placement, source)?;
@@ -145,11 +135,9 @@ fn push_left_joins(
 }
 
 /// How many tables a class has behind its root's.
-fn further_count(mapping: &Mapping, class: ClassId) -> Result<u32, Refusal>
+fn further_count(mapping: &Mapping, class: ClassId) -> Result<u32, AllocError>
     requires class { IsClass mapping.now class }
-    requires configured { mapping.now.configured ≡ true }
-    ensures count { IfOk result (λ count. count ≡ spec.further_count mapping.now class) }
-    ensures cause { IfErr result (λ e. e ≡ Memory) }
+    ensures { IfOk result (λ count. count ≡ spec.further_count mapping.now class) }
 {
     number_of(mapping.tables_of(class).len().saturating_sub(1))
 }
@@ -162,12 +150,10 @@ fn push_further_keys(
     mapping: &Mapping,
     class: ClassId,
     placement: Placement,
-) -> Result<(), Refusal>
+) -> Result<(), AllocError>
     requires class { IsClass mapping.now class }
-    requires configured { mapping.now.configured ≡ true }
-    ensures keys { OnOk result
+    ensures { OnOk result
         (out.new ≡ out.old ++ spec.further_keys mapping.now class placement) }
-    ensures cause { IfErr result (λ e. e ≡ Memory) }
 {
     let count = further_count(mapping, class)?;
     for below in 0..count {
@@ -178,19 +164,16 @@ fn push_further_keys(
     Ok(())
 }
 
-/// What a joined option reads of its target: the attributes, and behind them the keys of the tables behind the root's. The only
-/// refusal is `Memory`.
+/// What a joined option reads of its target: the attributes, and behind them the keys of the tables behind the root's.
 pub fn option_columns(
     alloc: Global,
     mapping: &Mapping,
     class: ClassId,
     placement: Placement,
-) -> Result<ListOf<SourceColumn>, Refusal>
-    requires configured { mapping.now.configured ≡ true }
+) -> Result<ListOf<SourceColumn>, AllocError>
     requires class { IsClass mapping.now class }
-    ensures columns { IfOk result
+    ensures { IfOk result
         (λ columns. columns ≡ spec.option_columns mapping.now class placement) }
-    ensures cause { IfErr result (λ e. e ≡ Memory) }
 {
     let mut columns = attribute_columns(alloc, mapping, class, placement)?;
     push_further_keys(&mut columns, alloc, mapping, class, placement)?;
@@ -198,17 +181,15 @@ pub fn option_columns(
 }
 
 /// Columns become items of a select, behind its others.
-fn push_items(select: &mut Select, columns: &[SourceColumn]) -> Result<(), Refusal>
-    ensures items { OnOk result (select.new ≡ spec.with_items select.old columns.now) }
-    ensures cause { IfErr result (λ e. e ≡ Memory) }
+fn push_items(select: &mut Select, columns: &[SourceColumn]) -> Result<(), AllocError>
+    ensures { OnOk result (select.new ≡ spec.with_items select.old columns.now) }
 {
     push_columns_as_items(&mut select.items, columns)
 }
 
 /// How many sources a select has.
-fn source_count(select: &Select) -> Result<u32, Refusal>
-    ensures count { IfOk result (λ count. count ≡ suc (length select.now.joins)) }
-    ensures cause { IfErr result (λ e. e ≡ Memory) }
+fn source_count(select: &Select) -> Result<u32, AllocError>
+    ensures { IfOk result (λ count. count ≡ suc (length select.now.joins)) }
 {
     let further = number_of(select.joins.len())?;
     number_of(further as usize + 1)
@@ -223,15 +204,13 @@ fn push_sources(
     relation: &Relation,
     sources: u32,
     placement: Placement,
-) -> Result<(), Refusal>
+) -> Result<(), AllocError>
     requires class { IsClass mapping.now class }
     requires target { IsClass mapping.now relation.now.target }
-    requires configured { mapping.now.configured ≡ true }
     requires placement { placement ≡ target_placement mapping.now relation.now sources }
-    ensures sources { OnOk result (select.new
+    ensures { OnOk result (select.new
         ≡ fold (spec.with_left_join mapping.now.schema) select.old
         (spec.option_sources mapping.now class relation.now sources)) }
-    ensures cause { IfErr result (λ e. e ≡ Memory) }
 {
     let root = from_root(0);
     let further = related_sources(alloc, mapping, class, root, relation, sources)?;
@@ -253,13 +232,11 @@ pub(crate) fn push_option(
     mapping: &Mapping,
     class: ClassId,
     relation: &Relation,
-) -> Result<(), Refusal>
+) -> Result<(), AllocError>
     requires class { IsClass mapping.now class }
     requires target { IsClass mapping.now relation.now.target }
-    requires configured { mapping.now.configured ≡ true }
-    ensures option { OnOk result
+    ensures { OnOk result
         (select.new ≡ spec.with_option mapping.now class select.old relation.now) }
-    ensures cause { IfErr result (λ e. e ≡ Memory) }
 {
     let target = relation.target;
     let sources = source_count(&*select)?;

@@ -1,24 +1,22 @@
 //! The main select of a query for objects.
 
-ghost use Rattle.std.specs.Prelude.{◌≡◌, ◌<◌, ◌-◌, true, length, suc, fold, IfOk, IfErr, OnOk};
+ghost use Rattle.std.specs.Prelude.{◌≡◌, ◌<◌, ◌-◌, length, suc, fold, IfOk, OnOk};
 ghost use Rattle.std.specs.List.{All};
-ghost use Rattle.base_core.specs.declared.refusal.Refusal.TheVariants.{Memory};
 ghost use Rattle.class_mapping.specs.Mapped.{IsClass, relations_of};
 ghost use Rattle.object_arena.specs.Fit.{relation_of};
 ghost use Rattle.main_selects.specs.MainSelect as spec;
 
 use crate::options::push_option;
 use crate::shifted::{Shift, shifted_filter, shifted_order};
-use base_core::{ClassId, Refusal, RelNo, both};
+use base_core::{ClassId, RelNo, both};
 use class_layouts::number_of;
 use class_mapping::{Mapping, Relation};
 use expr_types::{CopiedIn, ObjectQuery, Select};
-use std::alloc::Global;
+use std::alloc::{AllocError, Global};
 
 /// The relationship at a place of a class.
 fn relation_at(mapping: &Mapping, class: ClassId, place: RelNo) -> &Relation
     requires class { IsClass mapping.now class }
-    requires configured { mapping.now.configured ≡ true }
     requires place { place.0 < length (relations_of mapping.now class) }
     ensures { result.now ≡ relation_of mapping.now class place }
 {
@@ -28,11 +26,10 @@ fn relation_at(mapping: &Mapping, class: ClassId, place: RelNo) -> &Relation
 /// The class to which it leads is declared. It does nothing when it runs.
 fn target_is_declared(mapping: &Mapping, class: ClassId, place: RelNo)
     requires class { IsClass mapping.now class }
-    requires configured { mapping.now.configured ≡ true }
     requires place { place.0 < length (relations_of mapping.now class) }
     ensures { IsClass mapping.now (relation_of mapping.now class place).target }
 {
-    let _ = mapping.is_configured();
+    let _ = mapping.schema();
     let _ = (class, place);
 }
 
@@ -43,13 +40,11 @@ fn push_joined(
     mapping: &Mapping,
     class: ClassId,
     place: RelNo,
-) -> Result<(), Refusal>
+) -> Result<(), AllocError>
     requires class { IsClass mapping.now class }
-    requires configured { mapping.now.configured ≡ true }
     requires place { place.0 < length (relations_of mapping.now class) }
-    ensures option { OnOk result
+    ensures { OnOk result
         (select.new ≡ spec.with_joined mapping.now class select.old place) }
-    ensures cause { IfErr result (λ e. e ≡ Memory) }
 {
     target_is_declared(mapping, class, place);
     push_option(
@@ -69,14 +64,12 @@ fn push_options(
     mapping: &Mapping,
     class: ClassId,
     places: &[RelNo],
-) -> Result<(), Refusal>
+) -> Result<(), AllocError>
     requires class { IsClass mapping.now class }
-    requires configured { mapping.now.configured ≡ true }
     requires places { All
         (λ place. place.0 < length (relations_of mapping.now class)) places.now }
-    ensures options { OnOk result (select.new
+    ensures { OnOk result (select.new
         ≡ fold (spec.with_joined mapping.now class) select.old places.now) }
-    ensures cause { IfErr result (λ e. e ≡ Memory) }
 {
     for place in places {
         push_joined(select, alloc, mapping, class, *place)?;
@@ -85,11 +78,10 @@ fn push_options(
 }
 
 /// How many sources a select has of its own, and how many more a wider one has.
-fn shift_between(own: &Select, wide: &Select) -> Result<Shift, Refusal>
+fn shift_between(own: &Select, wide: &Select) -> Result<Shift, AllocError>
     ensures own { IfOk result (λ shift. shift.own ≡ suc (length own.now.joins)) }
     ensures more { IfOk result
         (λ shift. shift.more ≡ length wide.now.joins - length own.now.joins) }
-    ensures cause { IfErr result (λ e. e ≡ Memory) }
 {
     let further = number_of(own.joins.len())?;
     Ok(Shift {
@@ -106,9 +98,8 @@ fn put<T: Drop>(place: &mut T, value: T)
 }
 
 /// A wider select takes the condition and the order of a select.
-fn take_shifted(wide: &mut Select, alloc: Global, own: &Select) -> Result<(), Refusal>
-    ensures shifted { OnOk result (wide.new ≡ spec.with_shifted own.now wide.old) }
-    ensures cause { IfErr result (λ e. e ≡ Memory) }
+fn take_shifted(wide: &mut Select, alloc: Global, own: &Select) -> Result<(), AllocError>
+    ensures { OnOk result (wide.new ≡ spec.with_shifted own.now wide.old) }
 {
     let shift = shift_between(own, &*wide)?;
     let (filter, order) = both(
@@ -127,15 +118,13 @@ fn widen(
     alloc: Global,
     mapping: &Mapping,
     query: &ObjectQuery,
-) -> Result<(), Refusal>
+) -> Result<(), AllocError>
     requires own { wide.old ≡ query.now.select }
     requires class { IsClass mapping.now query.now.class }
-    requires configured { mapping.now.configured ≡ true }
     requires options { All
         (λ place. place.0 < length (relations_of mapping.now query.now.class))
         query.now.joined }
-    ensures select { OnOk result (wide.new ≡ spec.main_select mapping.now query.now) }
-    ensures cause { IfErr result (λ e. e ≡ Memory) }
+    ensures { OnOk result (wide.new ≡ spec.main_select mapping.now query.now) }
 {
     push_options(wide, alloc, mapping, query.class, query.joined.as_slice())?;
     take_shifted(wide, alloc, &query.select)
@@ -143,17 +132,16 @@ fn widen(
 
 /// A query's main select: its own, with the sources and columns of its joined options. These are left-joined under aliases that
 /// no table, no source and no source of an `exists` has; conditions and order speak of the same sources as before.
-///
-/// # Errors
-/// `Memory` alone.
-pub fn main_select(alloc: Global, mapping: &Mapping, query: &ObjectQuery) -> Result<Select, Refusal>
+pub fn main_select(
+    alloc: Global,
+    mapping: &Mapping,
+    query: &ObjectQuery,
+) -> Result<Select, AllocError>
     requires class { IsClass mapping.now query.now.class }
-    requires configured { mapping.now.configured ≡ true }
     requires options { All
         (λ place. place.0 < length (relations_of mapping.now query.now.class))
         query.now.joined }
-    ensures select { IfOk result (λ s. s ≡ spec.main_select mapping.now query.now) }
-    ensures cause { IfErr result (λ e. e ≡ Memory) }
+    ensures { IfOk result (λ s. s ≡ spec.main_select mapping.now query.now) }
 {
     let mut wide = query.select.copied_in(alloc)?;
     widen(&mut wide, alloc, mapping, query).and(Ok(wide))

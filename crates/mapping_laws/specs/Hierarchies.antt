@@ -1,5 +1,5 @@
--- What the classes of a configured mapping have: their lines, their tables, and what tells the classes of a hierarchy apart.
-use Rattle.std.specs.Prelude.{◌≡◌, ℕ, suc, true, List, ◌∷◌, length, map, slice_get, unwrap_or, Some}
+-- What the classes of a mapping have: their lines, their tables, and what tells the classes of a hierarchy apart.
+use Rattle.std.specs.Prelude.{◌≡◌, ℕ, suc, true, List, ◌∷◌, map, slice_get, unwrap_or, Some}
 use Rattle.std.specs.Option.{option_and_then}
 use Rattle.std.specs.List.{All, position}
 use Rattle.base_core.specs.declared.ids.ClassId.{ClassId}
@@ -7,21 +7,12 @@ use Rattle.base_core.specs.declared.ids.TableId.{TableId}
 use Rattle.base_core.specs.declared.value.Kind.{Kind}
 use Rattle.schema_core.specs.declared.table.ColumnSpec.{ColumnSpec}
 use Rattle.schema_core.specs.Catalog.{IsTable, key_columns, kind_of, same_name, spec_of}
-use Rattle.schema_core.specs.Declaration.{IsDeclared}
 use Rattle.schema_core.specs.Tables.{kind_of_value}
 use Rattle.sql_semantics.specs.Plain.{are_distinct}
 use Rattle.class_layouts.specs.Faults.{has_kind}
-use Rattle.class_mapping.specs.Lines.{AreLines}
-use Rattle.class_mapping.specs.Mapped.{IsClass, IsValidMapping, Mapped, class_spec, root_of, root_spec, root_table, tables_of}
-use Rattle.class_mapping.specs.Paired.{HasPairs, is_at_or_under}
-
--- each class has its line, no fault is found among all declarations, and none in those of tables
-pub record HasHierarchies (mapped : Mapped) : Type 0 where
-  pub lined : length mapped.classes.lines ≡ length mapped.classes.specs
-  pub lines : AreLines mapped.schema.tables mapped.classes
-  pub valid : IsValidMapping mapped
-  pub paired : HasPairs mapped
-  pub declared : IsDeclared mapped.schema.tables mapped.schema.resolved
+pub use Rattle.class_mapping.specs.Configured.{HasHierarchies}
+use Rattle.class_mapping.specs.Mapped.{IsClass, Mapped, class_spec, root_of, root_spec, root_table, tables_of}
+use Rattle.class_mapping.specs.Paired.{is_at_or_under}
 
 -- the kinds of the values of columns
 abbrev pub kinds_of : List ColumnSpec → List Kind

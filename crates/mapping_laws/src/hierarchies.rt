@@ -1,20 +1,9 @@
-//! What the classes of a configured mapping have.
+//! What the classes of a mapping have.
 
-ghost use Rattle.std.specs.Prelude.{◌≡◌, ℕ, List, true, false, is_some};
+ghost use Rattle.std.specs.Prelude.{◌≡◌, ℕ, List, false, is_some};
 ghost use Rattle.base_core.specs.declared.ids.ClassId.{ClassId};
 ghost use Rattle.class_mapping.specs.Mapped.{IsClass, Mapped, class_spec};
 ghost use Rattle.mapping_laws.specs.Hierarchies.{HasHierarchies, HasTables, TellsApart};
-
-use class_mapping::Mapping;
-
-/// Whether a mapping is configured. If so each class has its line, and there is no fault.
-pub fn has_hierarchies(mapping: &Mapping) -> bool
-    ensures configured { result ≡ mapping.now.configured }
-    ensures hierarchies { mapping.now.configured ≡ true → HasHierarchies mapping.now }
-{
-    mapping.schema().declared_one_by_one();
-    mapping.is_configured()
-}
 
 /// The tables of a class begin with its root's, all are declared, no two have one name, and the keys of each and of the one behind
 /// it have the same kinds. It does nothing when it runs.

@@ -4,5 +4,5 @@
 mod hierarchies;
 mod keys;
 
-pub use hierarchies::{classes_have_tables, discriminators_tell_apart, has_hierarchies};
+pub use hierarchies::{classes_have_tables, discriminators_tell_apart};
 pub use keys::keys_are_of_roots;

@@ -17,7 +17,6 @@ mod play;
 mod told;
 
 use base_core::Refusal;
-use class_mapping::Mapping;
 use mapping::declare_all;
 use notations::Page;
 use play::answer;
@@ -27,8 +26,7 @@ use std::io;
 /// The answers to lines.
 fn answers(alloc: Global, text: &str) -> Result<String, Refusal> {
     let mut page = Page::new(alloc);
-    let mut mapping = Mapping::new(alloc);
-    declare_all(&mut page, &mut mapping)?;
+    let mapping = declare_all(&mut page)?;
     for line in text.lines() {
         answer(&mapping, line, &mut page)?;
         page.push('\n');

@@ -1,7 +1,7 @@
 //! The classes of the graphs, from lines.
 
 use base_core::{ListOf, Refusal, Value};
-use class_mapping::{Cascade, ClassSpec, Mapping, RelationSpec};
+use class_mapping::{Cascade, ClassSpec, Declarations, Mapping, RelationSpec};
 use class_types::Hooks;
 use notations::{Page, parted};
 
@@ -96,10 +96,14 @@ fn class(page: &mut Page, line: &str, number: u32) -> ClassSpec {
 }
 
 /// Declares the table of a line, where a number is left for it.
-fn declare_table(page: &mut Page, mapping: &mut Mapping, line: &str) -> Result<(), Refusal> {
+fn declare_table(
+    page: &mut Page,
+    declarations: &mut Declarations,
+    line: &str,
+) -> Result<(), Refusal> {
     let spec = page.table(line);
-    if mapping.schema().count() < u32::MAX {
-        mapping.declare_table(spec)?;
+    if declarations.schema().count() < u32::MAX {
+        declarations.declare_table(spec)?;
     }
     Ok(())
 }
@@ -107,25 +111,29 @@ fn declare_table(page: &mut Page, mapping: &mut Mapping, line: &str) -> Result<(
 /// Declares the class of a line, where a number is left for it.
 fn declare_class(
     page: &mut Page,
-    mapping: &mut Mapping,
+    declarations: &mut Declarations,
     hooks: &Hooks,
     line: &str,
 ) -> Result<(), Refusal> {
-    let spec = class(page, line, mapping.count());
-    if mapping.count() < u32::MAX {
-        mapping.declare_class(spec, hooks)?;
+    let spec = class(page, line, declarations.count());
+    if declarations.count() < u32::MAX {
+        declarations.declare_class(spec, hooks)?;
     }
     Ok(())
 }
 
 /// The mapping: users with addresses, parts and tags, administrators with logs, and nodes with a next one.
-pub(crate) fn declare_all(page: &mut Page, mapping: &mut Mapping) -> Result<(), Refusal> {
+pub(crate) fn declare_all(page: &mut Page) -> Result<Mapping, Refusal> {
+    let mut declarations = Declarations::new(page.alloc());
     let hooks = Hooks::new(page.alloc());
     for line in TABLES.as_slice() {
-        declare_table(page, mapping, line)?;
+        declare_table(page, &mut declarations, line)?;
     }
     for line in CLASSES.as_slice() {
-        declare_class(page, mapping, &hooks, line)?;
+        declare_class(page, &mut declarations, &hooks, line)?;
     }
-    mapping.configure()
+    match declarations.configure() {
+        Ok(mapping) => Ok(mapping),
+        Err(refused) => Err(refused.refusal),
+    }
 }

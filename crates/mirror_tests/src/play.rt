@@ -1,7 +1,7 @@
 //! Plays the acts of a line.
 
 ghost use Rattle.std.specs.Prelude.{◌≡◌, ◌<◌, true};
-ghost use Rattle.class_mapping.specs.Mapped.{IsClass};
+ghost use Rattle.class_mapping.specs.Mapped.{IsClass, Mapped};
 ghost use Rattle.object_arena.specs.Fit.{IsFit};
 ghost use Rattle.object_arena.specs.Graph.{IsObject};
 ghost use Rattle.relations.specs.Mirror.{is_unloaded, link_at};
@@ -75,7 +75,6 @@ fn is_made(arena: &Arena, object: ObjId) -> bool
 }
 
 fn make(mapping: &Mapping, arena: &mut Arena, act: &[u8]) -> Result<(), Refusal>
-    requires configured { mapping.now.configured ≡ true }
     requires fit { IsFit mapping.now arena.old }
     ensures { IsFit mapping.now arena.new }
 {
@@ -93,7 +92,6 @@ fn register(
     arena: &mut Arena,
     act: &[u8],
 ) -> Result<(), Refusal>
-    requires configured { mapping.now.configured ≡ true }
     requires fit { IsFit mapping.now arena.old }
     ensures { IsFit mapping.now arena.new }
 {
@@ -108,9 +106,8 @@ fn register(
     arena.register(object, key)
 }
 
-fn put_state(arena: &mut Arena, mapping: &Mapping, act: &[u8]) -> Result<(), Refusal>
-    requires fit { IsFit mapping.now arena.old }
-    ensures { IsFit mapping.now arena.new }
+fn put_state(arena: &mut Arena, act: &[u8]) -> Result<(), Refusal>
+    ensures { (mapped : Mapped) → IsFit mapped arena.old → IsFit mapped arena.new }
 {
     let object = ObjId(digit_at(act, 1));
     if !is_made(arena, object) {
@@ -121,19 +118,20 @@ fn put_state(arena: &mut Arena, mapping: &Mapping, act: &[u8]) -> Result<(), Ref
         b'p' => arena.put_state(object, State::Pending),
         b'd' if known => arena.put_state(object, State::Detached),
         b'e' if known => arena.put_state(object, State::Deleted),
-        _ => Err(Refusal::NotBuilt),
+        _ => return Err(Refusal::NotBuilt),
     }
+    Ok(())
 }
 
-fn make_orphan(arena: &mut Arena, mapping: &Mapping, act: &[u8]) -> Result<(), Refusal>
-    requires fit { IsFit mapping.now arena.old }
-    ensures { IsFit mapping.now arena.new }
+fn make_orphan(arena: &mut Arena, act: &[u8]) -> Result<(), Refusal>
+    ensures { (mapped : Mapped) → IsFit mapped arena.old → IsFit mapped arena.new }
 {
     let object = ObjId(digit_at(act, 1));
     if !is_made(arena, object) {
         return Err(Refusal::NotBuilt);
     }
-    arena.put_marks(object, 0, false, true)
+    arena.put_marks(object, 0, false, true);
+    Ok(())
 }
 
 /// Puts a digit into a cell, or expires it.
@@ -143,7 +141,6 @@ fn put_cell(
     act: &[u8],
     value: Option<Value>,
 ) -> Result<(), Refusal>
-    requires configured { mapping.now.configured ≡ true }
     requires fit { IsFit mapping.now arena.old }
     ensures { IsFit mapping.now arena.new }
 {
@@ -159,7 +156,8 @@ fn put_cell(
                 value: None,
                 base: None,
             };
-            arena.put_cell(object, attr, expired)
+            arena.put_cell(object, attr, expired);
+            Ok(())
         }
     }
 }
@@ -197,7 +195,6 @@ fn put_link(
     mapping: &Mapping,
     act: &[u8],
 ) -> Result<(), Refusal>
-    requires configured { mapping.now.configured ≡ true }
     requires fit { IsFit mapping.now arena.old }
     ensures { IsFit mapping.now arena.new }
 {
@@ -214,20 +211,20 @@ fn put_link(
     if !link_fits(arena, mapping, &relations[place.0 as usize], &link) {
         return Err(Refusal::NotBuilt);
     }
-    arena.put_link(object, place, link)
+    arena.put_link(object, place, link);
+    Ok(())
 }
 
 /// An act that makes the graph.
 fn prepare(page: &mut Page, arena: &mut Arena, mapping: &Mapping, act: &[u8]) -> Result<(), Refusal>
-    requires configured { mapping.now.configured ≡ true }
     requires fit { IsFit mapping.now arena.old }
     ensures { IsFit mapping.now arena.new }
 {
     match byte_at(act, 0) {
         b'n' => make(mapping, arena, act),
         b'k' => register(page, mapping, arena, act),
-        b't' => put_state(arena, mapping, act),
-        b'o' => make_orphan(arena, mapping, act),
+        b't' => put_state(arena, act),
+        b'o' => make_orphan(arena, act),
         b'c' => {
             let value = Value::Int(i64::from(digit_at(act, 3)));
             put_cell(arena, mapping, act, Some(value))
@@ -240,7 +237,6 @@ fn prepare(page: &mut Page, arena: &mut Arena, mapping: &Mapping, act: &[u8]) ->
 
 /// The change of a link.
 fn change(alloc: Global, arena: &mut Arena, mapping: &Mapping, act: &[u8]) -> Result<(), Refusal>
-    requires configured { mapping.now.configured ≡ true }
     requires fit { IsFit mapping.now arena.old }
 {
     let object = ObjId(digit_at(act, 1));
@@ -289,15 +285,14 @@ fn closure(
     letter: u8,
     object: ObjId,
 ) -> Result<ObjSet, Refusal>
-    requires configured { mapping.now.configured ≡ true }
     requires fit { IsFit mapping.now arena.now }
     requires object { IsObject arena.now object }
 {
     match letter {
-        b'u' => save_closure(alloc, arena, mapping, object),
-        b'x' => expire_closure(alloc, arena, mapping, object),
-        b'p' => expunge_closure(alloc, arena, mapping, object),
-        _ => delete_closure(alloc, arena, mapping, object),
+        b'u' => Ok(save_closure(alloc, arena, mapping, object)?),
+        b'x' => Ok(expire_closure(alloc, arena, mapping, object)?),
+        b'p' => Ok(expunge_closure(alloc, arena, mapping, object)?),
+        _ => Ok(delete_closure(alloc, arena, mapping, object)?),
     }
 }
 
@@ -308,7 +303,6 @@ fn tell_closure(
     act: &[u8],
     page: &mut Page,
 ) -> Result<(), Refusal>
-    requires configured { mapping.now.configured ≡ true }
     requires fit { IsFit mapping.now arena.now }
 {
     let object = ObjId(digit_at(act, 2));
@@ -328,7 +322,6 @@ fn is_change(act: &[u8]) -> bool {
 
 /// Changes the graph, and tells the answer and the graph then.
 fn tell_change(arena: &mut Arena, mapping: &Mapping, act: &[u8], page: &mut Page)
-    requires configured { mapping.now.configured ≡ true }
     requires fit { IsFit mapping.now arena.old }
 {
     let answer = change(page.alloc(), arena, mapping, act);
@@ -338,7 +331,6 @@ fn tell_change(arena: &mut Arena, mapping: &Mapping, act: &[u8], page: &mut Page
 
 /// The graph after the acts of a line, and the answer to the last one, or the closure for which it asks.
 fn play(arena: &mut Arena, mapping: &Mapping, line: &str, page: &mut Page) -> Result<(), Refusal>
-    requires configured { mapping.now.configured ≡ true }
     requires fit { IsFit mapping.now arena.old }
 {
     for text in line.split(';') {
@@ -357,9 +349,6 @@ fn play(arena: &mut Arena, mapping: &Mapping, line: &str, page: &mut Page) -> Re
 
 /// What is said of a line.
 pub(crate) fn answer(mapping: &Mapping, line: &str, page: &mut Page) -> Result<(), Refusal> {
-    if !mapping.is_configured() {
-        return Ok(());
-    }
     let mut arena = Arena::new(page.alloc());
     play(&mut arena, mapping, line, page)
 }

@@ -6,11 +6,20 @@ use std::alloc::{AllocError, Global};
 
 /// What is written so far, and whether there was memory for all of it, and for all that was read for it. Where there was not,
 /// what is asked goes on without, and the page counts for nothing in the end: so what writes and reads has no exit for memory.
-#[derive(Drop)]
 pub struct Page {
     alloc: Global,
     text: String,
     is_whole: bool,
+}
+
+impl Drop for Page {
+    fn drop(self) {
+        let Page {
+            alloc: _,
+            text: _,
+            is_whole: _,
+        } = self;
+    }
 }
 
 impl Page {
@@ -50,11 +59,12 @@ impl Page {
     /// # Errors
     /// Memory ran out.
     pub fn into_text(self) -> Result<String, AllocError> {
-        if self.is_whole {
-            Ok(self.text)
-        } else {
-            Err(AllocError)
-        }
+        let Page {
+            alloc: _,
+            text,
+            is_whole,
+        } = self;
+        if is_whole { Ok(text) } else { Err(AllocError) }
     }
 
     /// What is written so far.

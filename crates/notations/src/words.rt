@@ -25,7 +25,7 @@ impl Page {
     /// An item goes to the end of a list.
     pub fn add<T: Drop>(&mut self, list: &mut ListOf<T>, item: T) {
         let done = list.push(item);
-        self.note_done(done);
+        self.note(done);
     }
 
     fn string(&mut self, text: &str) -> String {

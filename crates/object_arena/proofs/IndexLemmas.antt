@@ -12,7 +12,6 @@ use Rattle.base_core.specs.declared.ids.ObjId.{ObjId}
 use Rattle.base_core.specs.declared.ids.ClassId.{ClassId}
 use Rattle.base_core.specs.declared.value.Value.{Value}
 use Rattle.base_core.specs.Order.{values_cmp}
-use Rattle.base_core.specs.declared.refusal.Refusal.{Refusal}
 use Rattle.object_arena.specs.Entries.{IsPut, IsSame, Keyed, entry_of, is_entry}
 use Rattle.object_arena.specs.declared.object.State.{State}
 use Rattle.object_arena.specs.declared.object.State.TheVariants.{Transient, Pending, Persistent, Deleted, Detached}
@@ -81,7 +80,7 @@ indexed_pushed objects roots maps complete new root indexed less state identity 
         (cases_lt i (length objects))
 
 -- both lists got one more, or neither
-pub indexed_after : (objects new_objects : List Object) (roots new_roots : List ClassId) (maps : List Keyed) (complete : Bool) (new : Object) (root : ClassId) (result : Result (Unit {0}) Refusal) → IsIndexed objects roots maps complete → length objects < object_limit → new.state ≡ Transient → new.identity ≡ None
+pub indexed_after : {E : Type 0} (objects new_objects : List Object) (roots new_roots : List ClassId) (maps : List Keyed) (complete : Bool) (new : Object) (root : ClassId) (result : Result (Unit {0}) E) → IsIndexed objects roots maps complete → length objects < object_limit → new.state ≡ Transient → new.identity ≡ None
     → OnOk result ((new_objects ≡ objects ++ new ∷ []) × (new_roots ≡ roots ++ root ∷ [])) → OnErr result ((new_objects ≡ objects) × (new_roots ≡ roots)) → IsIndexed new_objects new_roots maps complete
 indexed_after objects new_objects roots new_roots maps complete new root (Ok done) indexed less state identity ok err = rw (ok.0, ok.1) (indexed_pushed objects roots maps complete new root indexed less state identity)
 indexed_after objects new_objects roots new_roots maps complete new root (Err full) indexed less state identity ok err = rw (err.0, err.1) indexed

@@ -1,6 +1,6 @@
 //! The arena of objects.
 
-ghost use Rattle.std.specs.Prelude.{◌≡◌, ◌==◌, ◌<◌, ◌≤◌, ◌≢◌, ◌+◌, [], List, None, Some, length, true, false, IsOk, IfOk, IfErr, OnOk, OnErr, Err, IfSome, is_some, ◌++◌, ◌∷◌};
+ghost use Rattle.std.specs.Prelude.{◌≡◌, ◌==◌, ◌<◌, ◌≤◌, ◌≢◌, ◌+◌, [], List, None, Some, length, true, false, IfOk, OnOk, OnErr, Err, IfSome, is_some, ◌++◌, ◌∷◌};
 ghost use Rattle.std.specs.List.{list_any, position, zip};
 ghost use Rattle.base_core.specs.Answers.{Takes};
 ghost use Rattle.base_core.specs.declared.ids.ClassId.{ClassId};
@@ -22,7 +22,7 @@ use crate::{Cell, CellRead, Link, Object, State, parts};
 use base_core::{AttrNo, ClassId, Key, Kind, LimitKind, ObjId, Refusal, RelNo, RequestKind, Value};
 use class_mapping::Mapping;
 use schema_core::{kind_of_value, same_kind};
-use std::alloc::Global;
+use std::alloc::{AllocError, Global};
 use std::cmp::Ordering;
 use std::marker::Model;
 
@@ -215,7 +215,6 @@ impl Arena {
     /// `LimitReached(Objects)` where there are 1,000,000 objects; `Memory` where there are fewer. A refusal changes nothing.
     pub fn make(&mut self, mapping: &Mapping, class: ClassId) -> Result<ObjId, Refusal>
         requires declared { IsClass mapping.now class }
-        requires configured { mapping.now.configured ≡ true }
         ensures step { Takes (λ object. object)
             (make self.old mapping.now class) self.old result self.new }
         ensures made { OnOk result (self.new ≡ with_fresh self.old mapping.now class) }
@@ -234,13 +233,11 @@ impl Arena {
     }
 
     /// One more transient object of a class.
-    fn add_fresh(&mut self, mapping: &Mapping, class: ClassId) -> Result<(), Refusal>
+    fn add_fresh(&mut self, mapping: &Mapping, class: ClassId) -> Result<(), AllocError>
         requires declared { IsClass mapping.now class }
-        requires configured { mapping.now.configured ≡ true }
         requires room { length self.old.objects < object_limit }
         ensures ok { OnOk result (self.new ≡ with_fresh self.old mapping.now class) }
         ensures err { OnErr result (self.new ≡ self.old) }
-        ensures cause { IfErr result (λ e. e ≡ Memory) }
     {
         let object = parts::fresh_object(self.alloc, mapping, class)?;
         let root = mapping.root_of(class);
@@ -261,7 +258,6 @@ impl Arena {
         attr: AttrNo,
         value: Value,
     ) -> Result<(), Refusal>
-        requires configured { mapping.now.configured ≡ true }
         requires fit { IsFit mapping.now self.old }
         requires object { IsObject self.old object }
         requires attr { IsAttribute mapping.now (object_at self.old object).class attr }
@@ -343,19 +339,17 @@ impl Arena {
         parts::expire(self.alloc, &mut self.objects[object.0 as usize - 1]);
     }
 
-    /// Replaces a cell of an object. It is never refused.
-    pub fn put_cell(&mut self, object: ObjId, attr: AttrNo, cell: Cell) -> Result<(), Refusal>
+    /// Replaces a cell of an object.
+    pub fn put_cell(&mut self, object: ObjId, attr: AttrNo, cell: Cell)
         requires object { IsObject self.old object }
         requires attr { IsCell self.old object attr }
-        ensures ok { OnOk result (self.new ≡ with_cell self.old object attr cell) }
-        ensures done { IsOk result }
+        ensures put { self.new ≡ with_cell self.old object attr cell }
         ensures keeps { KeepsWith
             (λ mapped. cell_fits
             (attribute_of mapped (object_at self.old object).class attr) cell ≡ true)
             self.old self.new }
     {
         self.write_cell(object, attr, cell);
-        Ok(())
     }
 
     /// Replaces a cell of an object.
@@ -368,19 +362,17 @@ impl Arena {
         let _old = target.cells.replace(attr.0 as usize, cell);
     }
 
-    /// Replaces a link of an object. It is never refused.
-    pub fn put_link(&mut self, object: ObjId, relation: RelNo, link: Link) -> Result<(), Refusal>
+    /// Replaces a link of an object.
+    pub fn put_link(&mut self, object: ObjId, relation: RelNo, link: Link)
         requires object { IsObject self.old object }
         requires relation { IsLink self.old object relation }
-        ensures ok { OnOk result (self.new ≡ with_link self.old object relation link) }
-        ensures done { IsOk result }
+        ensures put { self.new ≡ with_link self.old object relation link }
         ensures keeps { KeepsWith
             (λ mapped. link_fits mapped self.old.roots
             (relation_of mapped (object_at self.old object).class relation) link ≡ true)
             self.old self.new }
     {
         self.write_link(object, relation, link);
-        Ok(())
     }
 
     /// Replaces a link of an object.
@@ -393,23 +385,13 @@ impl Arena {
         let _old = target.links.replace(relation.0 as usize, link);
     }
 
-    /// Replaces an object's add number and marks. It is never refused.
-    pub fn put_marks(
-        &mut self,
-        object: ObjId,
-        added: u64,
-        marked: bool,
-        orphan: bool,
-    ) -> Result<(), Refusal>
+    /// Replaces an object's add number and marks.
+    pub fn put_marks(&mut self, object: ObjId, added: u64, marked: bool, orphan: bool)
         requires { IsObject self.old object }
-        ensures ok { OnOk result (self.new ≡ with_marks self.old object added marked orphan) }
-        ensures done { IsOk result }
-        ensures err { OnErr result (self.new ≡ self.old) }
-        ensures cause { IfErr result (λ e. e ≡ Memory) }
+        ensures put { self.new ≡ with_marks self.old object added marked orphan }
         ensures keeps { Keeps self.old self.new }
     {
         self.write_marks(object, added, marked, orphan);
-        Ok(())
     }
 
     /// Replaces an object's add number and marks.
@@ -423,23 +405,19 @@ impl Arena {
         target.orphan = orphan;
     }
 
-    /// Replaces an object's state; a transient or pending object has no identity. The only refusal is out of memory,
-    /// and it changes nothing.
-    pub fn put_state(&mut self, object: ObjId, state: State) -> Result<(), Refusal>
+    /// Replaces an object's state; a transient or pending object has no identity.
+    pub fn put_state(&mut self, object: ObjId, state: State)
         requires object { IsObject self.old object }
         requires state { is_persistent state ≡ false }
         requires identity { has_identity state ≡ true
             → is_some (object_at self.old object).identity ≡ true }
-        ensures ok { OnOk result (self.new ≡ with_state self.old object state) }
-        ensures frees { OnOk result
-            ((root : ClassId) (key : List Value) → find_identity self.old root key ≡ Some object
-            → find_identity self.new root key ≡ None) }
-        ensures err { OnErr result (self.new ≡ self.old) }
-        ensures cause { IfErr result (λ e. e ≡ Memory) }
+        ensures put { self.new ≡ with_state self.old object state }
+        ensures frees { (root : ClassId) (key : List Value)
+            → find_identity self.old root key ≡ Some object
+            → find_identity self.new root key ≡ None }
         ensures keeps { Keeps self.old self.new }
     {
         self.write_state(object, state);
-        Ok(())
     }
 
     /// Replaces an object's state.
@@ -583,12 +561,11 @@ fn push_both(
     roots: &mut Vec<ClassId>,
     object: Object,
     root: ClassId,
-) -> Result<(), Refusal>
+) -> Result<(), AllocError>
     ensures ok { OnOk result ((objects.new.items ≡ objects.old.items ++ object ∷ [])
         × (roots.new.items ≡ roots.old.items ++ root ∷ [])) }
     ensures err { OnErr result
         ((objects.new.items ≡ objects.old.items) × (roots.new.items ≡ roots.old.items)) }
-    ensures cause { IfErr result (λ e. e ≡ Memory) }
 {
     roots.reserve(1)?;
     objects.push(object)?;
@@ -596,7 +573,7 @@ fn push_both(
         Ok(()) => Ok(()),
         Err(_full) => {
             let _object = objects.pop();
-            Err(Refusal::Memory)
+            Err(AllocError)
         }
     }
 }
@@ -630,7 +607,6 @@ fn is_among(attributes: &[AttrNo], attr: AttrNo) -> bool
 /// Whether an attribute is a column of the key.
 fn is_key_attribute(mapping: &Mapping, class: ClassId, attr: AttrNo) -> bool
     requires declared { IsClass mapping.now class }
-    requires configured { mapping.now.configured ≡ true }
     ensures { result ≡ is_key_attribute mapping.now class attr }
 {
     is_among(mapping.key_attributes(class), attr)
@@ -639,7 +615,6 @@ fn is_key_attribute(mapping: &Mapping, class: ClassId, attr: AttrNo) -> bool
 /// Why the cell of an object's key is not set.
 fn key_fault(mapping: &Mapping, object: &Object, attr: AttrNo) -> Option<Refusal>
     requires declared { IsClass mapping.now object.now.class }
-    requires configured { mapping.now.configured ≡ true }
     ensures { result ≡ key_fault mapping.now object.now attr }
 {
     if object.identity.is_some() && is_key_attribute(mapping, object.class, attr) {
@@ -652,7 +627,6 @@ fn key_fault(mapping: &Mapping, object: &Object, attr: AttrNo) -> Option<Refusal
 /// Why a value is not taken for a cell.
 fn cell_fault(mapping: &Mapping, object: &Object, attr: AttrNo, value: &Value) -> Option<Refusal>
     requires declared { IsClass mapping.now object.now.class }
-    requires configured { mapping.now.configured ≡ true }
     requires attr { IsAttribute mapping.now object.now.class attr }
     ensures { result ≡ either_fault (value_fault mapping.now object.now attr value.now)
         (key_fault mapping.now object.now attr) }

@@ -1,15 +1,14 @@
 //! The objects by their identities.
 
-ghost use Rattle.std.specs.Prelude.{◌≡◌, ◌<◌, [], true, false, List, length, Some, if◌then◌else◌, IfErr, OnOk, OnErr};
+ghost use Rattle.std.specs.Prelude.{◌≡◌, ◌<◌, [], true, false, List, length, Some, if◌then◌else◌, OnOk, OnErr};
 ghost use Rattle.std.specs.Ordering.{is_eq};
 ghost use Rattle.std.specs.BTreeMap.{get};
 ghost use Rattle.base_core.specs.Order.{values_cmp};
 ghost use Rattle.base_core.specs.declared.value.Value.{Value};
-ghost use Rattle.base_core.specs.declared.refusal.Refusal.TheVariants.{Memory};
 ghost use Rattle.object_arena.specs.Entries.{IsPut, IsSame, entry_of};
 
-use base_core::{ClassId, Key, ObjId, Refusal, is_above_all};
-use std::alloc::Global;
+use base_core::{ClassId, Key, ObjId, is_above_all};
+use std::alloc::{AllocError, Global};
 use std::collections::BTreeMap;
 
 /// The objects of a root class by their keys.
@@ -47,20 +46,18 @@ impl IdentityMap {
 
     /// Puts an object under an identity, whether there was one under it or not. The only refusal is out of memory, and it
     /// changes no entry.
-    pub fn put(&mut self, root: ClassId, key: Key, object: ObjId) -> Result<(), Refusal>
+    pub fn put(&mut self, root: ClassId, key: Key, object: ObjId) -> Result<(), AllocError>
         ensures ok { OnOk result (IsPut self.old.maps.items self.new.maps.items root key object) }
         ensures err { OnErr result (IsSame self.old.maps.items self.new.maps.items) }
-        ensures cause { IfErr result (λ e. e ≡ Memory) }
     {
         self.reach(root)?;
         put_in(&mut self.maps[root.0 as usize], key, object)
     }
 
     /// There is a map for a root class. The only refusal is out of memory. No entry changes.
-    fn reach(&mut self, root: ClassId) -> Result<(), Refusal>
+    fn reach(&mut self, root: ClassId) -> Result<(), AllocError>
         ensures same { IsSame self.old.maps.items self.new.maps.items }
         ensures long { OnOk result (root.0 < length self.new.maps.items) }
-        ensures cause { IfErr result (λ e. e ≡ Memory) }
     {
         let missing = (root.0 as usize + 1).saturating_sub(self.maps.len());
         for _added in 0..missing {
@@ -93,11 +90,10 @@ fn object_under(map: &Keyed, key: &Key) -> Option<ObjId>
 }
 
 /// Puts an object under a key. The only refusal is out of memory, and it changes nothing.
-fn put_in(map: &mut Keyed, key: Key, object: ObjId) -> Result<(), Refusal>
+fn put_in(map: &mut Keyed, key: Key, object: ObjId) -> Result<(), AllocError>
     ensures ok { OnOk result ((other : List Value) → get values_cmp map.new other
         ≡ (if is_eq (values_cmp key other) then Some object else get values_cmp map.old other)) }
     ensures err { OnErr result (map.new.entries ≡ map.old.entries) }
-    ensures cause { IfErr result (λ e. e ≡ Memory) }
 {
     map.insert(key, object)?;
     Ok(())

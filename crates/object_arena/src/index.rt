@@ -6,8 +6,8 @@ ghost use Rattle.object_arena.specs.Index.{IsMoved};
 
 use crate::State;
 use crate::identities::IdentityMap;
-use base_core::{ClassId, Copied, Key, ObjId, Refusal};
-use std::alloc::Global;
+use base_core::{ClassId, Copied, Key, ObjId};
+use std::alloc::{AllocError, Global};
 
 /// The persistent objects by their identities, each a root class and a key.
 ///
@@ -70,7 +70,7 @@ impl IdentityIndex {
 }
 
 /// Puts an object under an identity, by a copy of its key.
-fn put(entries: &mut IdentityMap, root: ClassId, key: &Key, object: ObjId) -> Result<(), Refusal>
+fn put(entries: &mut IdentityMap, root: ClassId, key: &Key, object: ObjId) -> Result<(), AllocError>
     ensures { OnOk result
         (IsPut entries.old.maps.items entries.new.maps.items root key.now object) }
 {

@@ -1,20 +1,18 @@
 //! Changes of one object.
 
-ghost use Rattle.std.specs.Prelude.{◌≡◌, ◌<◌, [], IfOk, IfErr, length, map, true, Some};
-ghost use Rattle.base_core.specs.declared.refusal.Refusal.TheVariants.{Memory};
+ghost use Rattle.std.specs.Prelude.{◌≡◌, ◌<◌, [], IfOk, length, map, true, Some};
 ghost use Rattle.class_mapping.specs.Mapped.{IsClass};
 ghost use Rattle.object_arena.specs.declared.object.Link.TheVariants.{Unset, Unloaded};
 ghost use Rattle.object_arena.specs.Graph.{cell_in, cell_put, expired_object, expired_cell, fresh_object, kept_identity, null_cell, put_back_object, settled_object, settled_adds, settled_cell, settled_link};
 
 use crate::{Cell, Link, Object, State};
-use base_core::{AttrNo, ClassId, Key, ListOf, ObjList, Refusal, Value};
+use base_core::{AttrNo, ClassId, Key, ListOf, ObjList, Value};
 use class_mapping::{Attribute, Mapping, Relation};
-use std::alloc::Global;
+use std::alloc::{AllocError, Global};
 
 /// One null cell for each attribute.
-fn null_cells(alloc: Global, attributes: &[Attribute]) -> Result<ListOf<Cell>, Refusal>
-    ensures ok { IfOk result (λ cells. cells ≡ map (λ attribute. null_cell) attributes.now) }
-    ensures err { IfErr result (λ e. e ≡ Memory) }
+fn null_cells(alloc: Global, attributes: &[Attribute]) -> Result<ListOf<Cell>, AllocError>
+    ensures { IfOk result (λ cells. cells ≡ map (λ attribute. null_cell) attributes.now) }
 {
     let mut cells = ListOf::new(alloc);
     for _attribute in attributes {
@@ -27,9 +25,8 @@ fn null_cells(alloc: Global, attributes: &[Attribute]) -> Result<ListOf<Cell>, R
 }
 
 /// One unset link for each relationship.
-fn unset_links(alloc: Global, relations: &[Relation]) -> Result<ListOf<Link>, Refusal>
-    ensures ok { IfOk result (λ links. links ≡ map (λ relation. Unset) relations.now) }
-    ensures err { IfErr result (λ e. e ≡ Memory) }
+fn unset_links(alloc: Global, relations: &[Relation]) -> Result<ListOf<Link>, AllocError>
+    ensures { IfOk result (λ links. links ≡ map (λ relation. Unset) relations.now) }
 {
     let mut links = ListOf::new(alloc);
     for _relation in relations {
@@ -39,11 +36,9 @@ fn unset_links(alloc: Global, relations: &[Relation]) -> Result<ListOf<Link>, Re
 }
 
 /// A transient object of a class: null cells, unset links.
-pub fn fresh_object(alloc: Global, mapping: &Mapping, class: ClassId) -> Result<Object, Refusal>
+pub fn fresh_object(alloc: Global, mapping: &Mapping, class: ClassId) -> Result<Object, AllocError>
     requires declared { IsClass mapping.now class }
-    requires configured { mapping.now.configured ≡ true }
-    ensures ok { IfOk result (λ object. object ≡ fresh_object mapping.now class) }
-    ensures err { IfErr result (λ e. e ≡ Memory) }
+    ensures { IfOk result (λ object. object ≡ fresh_object mapping.now class) }
 {
     let cells = null_cells(alloc, mapping.attributes(class))?;
     let links = unset_links(alloc, mapping.relations(class))?;

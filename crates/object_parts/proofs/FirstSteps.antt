@@ -5,7 +5,6 @@ use Rattle.std.specs.BTreeSet.{BTreeSet, contains}
 use Rattle.std.specs.Ordering.{nat_cmp}
 use Rattle.std.proofs.lemmas.List.Folds.{list_any-append}
 use Rattle.base_core.specs.declared.ids.ObjId.{ObjId}
-use Rattle.base_core.specs.declared.refusal.Refusal.{Refusal}
 use Rattle.object_arena.specs.Graph.{is_among}
 use Rattle.object_parts.specs.Lists.{HasSeen, with_first}
 
@@ -14,7 +13,7 @@ pub seen_first : (seen : BTreeSet ℕ) (kept : List ObjId) (object : ObjId) (b :
 seen_first seen kept object b has asked so = sym (ap (λ (c : Bool). if c then kept else (kept ++ object ∷ [])) (sym (has.same object) ∙ sym asked ∙ so))
 
 -- one that was not goes behind the others
-pub new_first : (seen : BTreeSet ℕ) (kept new : List ObjId) (object : ObjId) (b : Bool) (r : Result (Unit {0}) Refusal) → HasSeen seen kept → b ≡ contains nat_cmp seen object.0 → b ≡ false → OnOk r (new ≡ kept ++ object ∷ [])
+pub new_first : {E : Type 0} (seen : BTreeSet ℕ) (kept new : List ObjId) (object : ObjId) (b : Bool) (r : Result (Unit {0}) E) → HasSeen seen kept → b ≡ contains nat_cmp seen object.0 → b ≡ false → OnOk r (new ≡ kept ++ object ∷ [])
     → OnOk r (new ≡ with_first kept object)
 new_first seen kept new object b (Ok u) has asked so pushed =
     pushed ∙ sym (ap (λ (c : Bool). if c then kept else (kept ++ object ∷ [])) (sym (has.same object) ∙ sym asked ∙ so))
@@ -27,7 +26,7 @@ or_turned false true = refl
 or_turned false false = refl
 
 -- the set has the number of one more then
-pub seen_more : (seen more : BTreeSet ℕ) (kept new : List ObjId) (object : ObjId) (r : Result (Unit {0}) Refusal) → HasSeen seen kept
+pub seen_more : {E : Type 0} (seen more : BTreeSet ℕ) (kept new : List ObjId) (object : ObjId) (r : Result (Unit {0}) E) → HasSeen seen kept
     → ((other : ObjId) → contains nat_cmp more other.0 ≡ (object.0 == other.0 || contains nat_cmp seen other.0)) → OnOk r (new ≡ kept ++ object ∷ []) → OnOk r (HasSeen more new)
 seen_more seen more kept new object (Ok u) has entered pushed = record {
   same = λ other.

@@ -1,6 +1,6 @@
 //! What is known of a cell, and which cells stay.
 
-ghost use Rattle.std.specs.Prelude.{◌≡◌, true};
+ghost use Rattle.std.specs.Prelude.{◌≡◌};
 ghost use Rattle.class_mapping.specs.Mapped.{IsClass, is_key_attribute};
 ghost use Rattle.object_parts.specs.Cells as spec;
 
@@ -21,7 +21,6 @@ pub fn is_base(base: &Option<Value>, value: &Value) -> bool
 /// Whether an object has an identity and an attribute is of its key.
 pub fn is_of_kept_key(mapping: &Mapping, object: &Object, attr: AttrNo) -> bool
     requires declared { IsClass mapping.now object.now.class }
-    requires configured { mapping.now.configured ≡ true }
     ensures { result ≡ spec.is_kept_cell mapping.now object.now attr }
 {
     object.identity.is_some() && is_of_key(mapping, object.class, attr)
@@ -30,7 +29,6 @@ pub fn is_of_kept_key(mapping: &Mapping, object: &Object, attr: AttrNo) -> bool
 /// Whether an attribute of a class is of its key.
 fn is_of_key(mapping: &Mapping, class: ClassId, attr: AttrNo) -> bool
     requires declared { IsClass mapping.now class }
-    requires configured { mapping.now.configured ≡ true }
     ensures { result ≡ is_key_attribute mapping.now class attr }
 {
     let keys = mapping.key_attributes(class);

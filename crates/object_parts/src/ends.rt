@@ -1,18 +1,16 @@
 //! To which objects a link leads. The only refusal is `Memory`.
 
-ghost use Rattle.std.specs.Prelude.{◌≡◌, ◌++◌, IfErr, OnOk};
-ghost use Rattle.base_core.specs.declared.refusal.Refusal.TheVariants.{Memory};
+ghost use Rattle.std.specs.Prelude.{◌≡◌, ◌++◌, OnOk};
 ghost use Rattle.object_parts.specs.Ends as spec;
 
 use crate::members::push_objects;
-use base_core::{ObjList, Refusal};
+use base_core::ObjList;
 use object_arena::Link;
+use std::alloc::AllocError;
 
-/// What a link holds goes to the end, where calls go on along it: of an unloaded collection the kept adds. The only refusal is
-/// `Memory`.
-pub fn add_ends(ends: &mut ObjList, goes_on: bool, link: &Link) -> Result<(), Refusal>
-    ensures ok { OnOk result (ends.new ≡ ends.old ++ spec.ends_with goes_on link.now) }
-    ensures cause { IfErr result (λ e. e ≡ Memory) }
+/// What a link holds goes to the end, where calls go on along it: of an unloaded collection the kept adds.
+pub fn add_ends(ends: &mut ObjList, goes_on: bool, link: &Link) -> Result<(), AllocError>
+    ensures { OnOk result (ends.new ≡ ends.old ++ spec.ends_with goes_on link.now) }
 {
     if !goes_on {
         return Ok(());

@@ -1,12 +1,11 @@
 //! What is known, changed and kept of a link.
 
-ghost use Rattle.std.specs.Prelude.{◌≡◌, IfErr, IfOk};
-ghost use Rattle.base_core.specs.declared.refusal.Refusal.TheVariants.{Memory};
+ghost use Rattle.std.specs.Prelude.{◌≡◌, IfOk};
 ghost use Rattle.object_parts.specs.Links as spec;
 
-use base_core::{Copied, ListOf, ObjId, Refusal};
+use base_core::{Copied, ListOf, ObjId};
 use object_arena::Link;
-use std::alloc::Global;
+use std::alloc::{AllocError, Global};
 
 /// Whether a link is to be read.
 pub fn is_unloaded(link: &Link) -> bool
@@ -28,10 +27,9 @@ pub fn changed_end(link: &Link) -> Option<Option<ObjId>>
     }
 }
 
-/// A link without flags and kept changes. The only refusal is `Memory`.
-pub fn kept_link(alloc: Global, link: &Link) -> Result<Link, Refusal>
-    ensures link { IfOk result (λ kept. kept ≡ spec.kept_link link.now) }
-    ensures cause { IfErr result (λ e. e ≡ Memory) }
+/// A link without flags and kept changes.
+pub fn kept_link(alloc: Global, link: &Link) -> Result<Link, AllocError>
+    ensures { IfOk result (λ kept. kept ≡ spec.kept_link link.now) }
 {
     match link {
         Link::Unset | Link::Unloaded { .. } => Ok(Link::Unloaded {

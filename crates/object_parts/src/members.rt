@@ -1,11 +1,10 @@
 //! The members of a collection, once it is loaded. The only refusal is `Memory`.
 
-ghost use Rattle.std.specs.Prelude.{◌≡◌, ◌++◌, IfErr, IfOk, OnOk};
-ghost use Rattle.base_core.specs.declared.refusal.Refusal.TheVariants.{Memory};
+ghost use Rattle.std.specs.Prelude.{◌≡◌, ◌++◌, IfOk, OnOk};
 ghost use Rattle.object_parts.specs.Members as spec;
 
-use base_core::{ListOf, ObjId, ObjList, Refusal};
-use std::alloc::Global;
+use base_core::{ListOf, ObjId, ObjList};
+use std::alloc::{AllocError, Global};
 
 /// Whether an object is none of others.
 fn is_apart(others: &[ObjId], object: ObjId) -> bool
@@ -15,9 +14,8 @@ fn is_apart(others: &[ObjId], object: ObjId) -> bool
 }
 
 /// The objects that are none of the others.
-fn without(alloc: Global, others: &[ObjId], objects: &[ObjId]) -> Result<ObjList, Refusal>
-    ensures left { IfOk result (λ left. left ≡ spec.without others.now objects.now) }
-    ensures cause { IfErr result (λ e. e ≡ Memory) }
+fn without(alloc: Global, others: &[ObjId], objects: &[ObjId]) -> Result<ObjList, AllocError>
+    ensures { IfOk result (λ left. left ≡ spec.without others.now objects.now) }
 {
     let mut left = ListOf::new(alloc);
     for object in objects {
@@ -29,9 +27,8 @@ fn without(alloc: Global, others: &[ObjId], objects: &[ObjId]) -> Result<ObjList
 }
 
 /// Objects go behind others.
-pub(crate) fn push_objects(out: &mut ObjList, objects: &[ObjId]) -> Result<(), Refusal>
-    ensures objects { OnOk result (out.new ≡ out.old ++ objects.now) }
-    ensures cause { IfErr result (λ e. e ≡ Memory) }
+pub(crate) fn push_objects(out: &mut ObjList, objects: &[ObjId]) -> Result<(), AllocError>
+    ensures { OnOk result (out.new ≡ out.old ++ objects.now) }
 {
     for object in objects {
         out.push(*object)?;
@@ -39,16 +36,15 @@ pub(crate) fn push_objects(out: &mut ObjList, objects: &[ObjId]) -> Result<(), R
     Ok(())
 }
 
-/// What was read without the kept removes, and behind it the kept adds that are not there already. The only refusal is `Memory`.
+/// What was read without the kept removes, and behind it the kept adds that are not there already.
 pub fn linked(
     alloc: Global,
     added: &[ObjId],
     removed: &[ObjId],
     read: &[ObjId],
-) -> Result<ObjList, Refusal>
-    ensures members { IfOk result
+) -> Result<ObjList, AllocError>
+    ensures { IfOk result
         (λ members. members ≡ spec.linked added.now removed.now read.now) }
-    ensures cause { IfErr result (λ e. e ≡ Memory) }
 {
     let mut members = without(alloc, removed, read)?;
     let more = without(alloc, members.as_slice(), added)?;

@@ -1,18 +1,16 @@
 //! Links that a member leaves or joins.
 
-ghost use Rattle.std.specs.Prelude.{◌≡◌, IfOk, IfErr};
-ghost use Rattle.base_core.specs.declared.refusal.Refusal.TheVariants.{Memory};
+ghost use Rattle.std.specs.Prelude.{◌≡◌, IfOk};
 ghost use Rattle.object_arena.specs.Graph.{is_among};
 ghost use Rattle.object_parts.specs.Sides as spec;
 
-use base_core::{Copied, ListOf, ObjId, ObjList, Refusal};
+use base_core::{Copied, ListOf, ObjId, ObjList};
 use object_arena::Link;
-use std::alloc::Global;
+use std::alloc::{AllocError, Global};
 
 /// What a link becomes where a member leaves it. The only refusal is out of memory.
-pub fn left(alloc: Global, link: &Link, member: ObjId) -> Result<Link, Refusal>
-    ensures left { IfOk result (λ new. new ≡ spec.left_by link.now member) }
-    ensures cause { IfErr result (λ e. e ≡ Memory) }
+pub fn left(alloc: Global, link: &Link, member: ObjId) -> Result<Link, AllocError>
+    ensures { IfOk result (λ new. new ≡ spec.left_by link.now member) }
 {
     match link {
         Link::Unset => Ok(Link::Unset),
@@ -35,11 +33,10 @@ fn left_unloaded(
     added: &ObjList,
     removed: &ObjList,
     member: ObjId,
-) -> Result<Link, Refusal>
-    ensures left { IfOk result
+) -> Result<Link, AllocError>
+    ensures { IfOk result
         (λ new. new ≡ spec.left_unloaded
         (is_among added.now member) added.now removed.now member) }
-    ensures cause { IfErr result (λ e. e ≡ Memory) }
 {
     if is_among(added.as_slice(), member) {
         let added = without(alloc, added.as_slice(), member)?;
@@ -52,9 +49,8 @@ fn left_unloaded(
 }
 
 /// What a link becomes where a member joins it. The only refusal is out of memory.
-pub fn joined(alloc: Global, link: &Link, member: ObjId) -> Result<Link, Refusal>
-    ensures joined { IfOk result (λ new. new ≡ spec.joined_by link.now member) }
-    ensures cause { IfErr result (λ e. e ≡ Memory) }
+pub fn joined(alloc: Global, link: &Link, member: ObjId) -> Result<Link, AllocError>
+    ensures { IfOk result (λ new. new ≡ spec.joined_by link.now member) }
 {
     match link {
         Link::Unset => first(alloc, member),
@@ -72,9 +68,8 @@ pub fn joined(alloc: Global, link: &Link, member: ObjId) -> Result<Link, Refusal
 }
 
 /// A collection of one member.
-fn first(alloc: Global, member: ObjId) -> Result<Link, Refusal>
-    ensures first { IfOk result (λ new. new ≡ spec.joined_by Link.Unset member) }
-    ensures cause { IfErr result (λ e. e ≡ Memory) }
+fn first(alloc: Global, member: ObjId) -> Result<Link, AllocError>
+    ensures { IfOk result (λ new. new ≡ spec.joined_by Link.Unset member) }
 {
     let mut members = ListOf::new(alloc);
     members.push(member)?;
@@ -90,11 +85,10 @@ fn joined_unloaded(
     added: &ObjList,
     removed: &ObjList,
     member: ObjId,
-) -> Result<Link, Refusal>
-    ensures joined { IfOk result
+) -> Result<Link, AllocError>
+    ensures { IfOk result
         (λ new. new ≡ spec.joined_unloaded
         (is_among removed.now member) added.now removed.now member) }
-    ensures cause { IfErr result (λ e. e ≡ Memory) }
 {
     if is_among(removed.as_slice(), member) {
         let added = added.copied()?;
@@ -114,9 +108,8 @@ pub fn is_among(objects: &[ObjId], object: ObjId) -> bool
 }
 
 /// The objects but for one.
-fn without(alloc: Global, objects: &[ObjId], object: ObjId) -> Result<ObjList, Refusal>
-    ensures rest { IfOk result (λ rest. rest ≡ spec.without objects.now object) }
-    ensures cause { IfErr result (λ e. e ≡ Memory) }
+fn without(alloc: Global, objects: &[ObjId], object: ObjId) -> Result<ObjList, AllocError>
+    ensures { IfOk result (λ rest. rest ≡ spec.without objects.now object) }
 {
     let mut rest = ListOf::new(alloc);
     for other in objects {
@@ -128,10 +121,9 @@ fn without(alloc: Global, objects: &[ObjId], object: ObjId) -> Result<ObjList, R
 }
 
 /// The objects with one behind them, unless it is among them.
-fn added_to(objects: &ObjList, object: ObjId) -> Result<ObjList, Refusal>
-    ensures all { IfOk result (λ all. all
+fn added_to(objects: &ObjList, object: ObjId) -> Result<ObjList, AllocError>
+    ensures { IfOk result (λ all. all
         ≡ spec.added_unless (is_among objects.now object) objects.now object) }
-    ensures cause { IfErr result (λ e. e ≡ Memory) }
 {
     let mut all = objects.copied()?;
     if !is_among(objects.as_slice(), object) {

@@ -52,7 +52,7 @@ list_is alike is (x ∷ xs) [] h = absurd cc
 list_is alike is (x ∷ xs) (y ∷ ys) h =
     ap (λ z. z ∷ xs) (is x y (first (alike x y) (pointwise alike xs ys) h)) ∙ ap (λ zs. y ∷ zs) (list_is alike is xs ys (and_then (alike x y) (pointwise alike xs ys) h))
 
-bool_is : (a b : Bool) → same_bool a b ≡ true → a ≡ b
+pub bool_is : (a b : Bool) → same_bool a b ≡ true → a ≡ b
 bool_is true b h = sym h
 bool_is false true h = absurd cc
 bool_is false false h = refl
@@ -101,7 +101,7 @@ cell_is a b h =
 ids_are : (xs ys : List ObjId) → pointwise same_id xs ys ≡ true → xs ≡ ys
 ids_are = list_is same_id id_is
 
-link_is : (a b : Link) → same_link a b ≡ true → a ≡ b
+pub link_is : (a b : Link) → same_link a b ≡ true → a ≡ b
 link_is Unset Unset h = refl
 link_is (Unloaded added removed) (Unloaded more less) h =
     ap (λ xs. Unloaded xs removed) (ids_are added more (first (pointwise same_id added more) (pointwise same_id removed less) h))
@@ -173,7 +173,7 @@ list_itself : {A : Type 0} (alike : A → A → Bool) → ((a : A) → alike a a
 list_itself alike itself [] = refl
 list_itself alike itself (x ∷ xs) = and_both (alike x x) (pointwise alike xs xs) (itself x) (list_itself alike itself xs)
 
-bool_itself : (a : Bool) → same_bool a a ≡ true
+pub bool_itself : (a : Bool) → same_bool a a ≡ true
 bool_itself true = refl
 bool_itself false = refl
 
@@ -199,7 +199,7 @@ cell_itself a = and_both (both_alike same_value a.value a.value) (both_alike sam
 ids_itself : (xs : List ObjId) → pointwise same_id xs xs ≡ true
 ids_itself = list_itself same_id (λ a. number_itself a.0)
 
-link_itself : (a : Link) → same_link a a ≡ true
+pub link_itself : (a : Link) → same_link a a ≡ true
 link_itself Unset = refl
 link_itself (Unloaded added removed) = and_both (pointwise same_id added added) (pointwise same_id removed removed) (ids_itself added) (ids_itself removed)
 link_itself (One end changed) = and_both (both_alike same_id end end) (same_bool changed changed) (option_itself same_id (λ a. number_itself a.0) end) (bool_itself changed)

@@ -4,7 +4,6 @@ use Rattle.std.proofs.lemmas.Bool.{cases_eq}
 use Rattle.std.proofs.lemmas.List.{get_or-set_same, get_or-set_other}
 use Rattle.std.specs.List.{enumerate_from, filter}
 use Rattle.base_core.specs.declared.ids.ObjId.{ObjId}
-use Rattle.base_core.specs.declared.refusal.Refusal.{Refusal}
 use Rattle.object_arena.specs.declared.object.Object.{Object}
 use Rattle.object_arena.specs.Graph.{Graph, IsObject, no_object, object_at, place_of, with_object}
 use Rattle.object_arena.specs.Identity.{id_of_place}
@@ -74,7 +73,7 @@ touched_one graph object new frames b made is =
     ∙ elim b as (λ (c : Bool). frames_with_touched graph (cond c (object ∷ []) []) frames ≡ cond c (touch graph object frames) frames) [ true ↦ refl | false ↦ refl ]
 
 -- the object is touched, since its record is to differ
-pub touches : (graph : Graph) (object : ObjId) (new : Object) (old now : Framed) (r : Result (Unit {0}) Refusal) → IsObject graph object → true ≡ not (same_object (object_at graph object) new)
+pub touches : {E : Type 0} (graph : Graph) (object : ObjId) (new : Object) (old now : Framed) (r : Result (Unit {0}) E) → IsObject graph object → true ≡ not (same_object (object_at graph object) new)
     → OnOk r (now ≡ touch graph object old) → OnOk r (now ≡ frames_touched_between graph (with_object graph object new) old)
 touches graph object new old now (Ok u) made is touched = touched ∙ sym (touched_one graph object new old true made is)
 touches graph object new old now (Err e) made is touched = tt

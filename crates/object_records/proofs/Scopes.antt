@@ -2,7 +2,6 @@
 use Rattle.std.proofs.Common.{◌≡◌, List, [], ◌∷◌, Result, Ok, Err, OnOk, refl, ap, ◌∙◌}
 use Rattle.std.specs.Prelude.{OnErr}
 use Rattle.base_core.specs.declared.ids.ObjId.{ObjId}
-use Rattle.base_core.specs.declared.refusal.Refusal.{Refusal}
 use Rattle.object_arena.specs.Graph.{Graph}
 use Rattle.savepoints.specs.declared.scope.Scope.{Scope}
 use Rattle.savepoints.specs.Scopes.{Framed, touch, touch_in}
@@ -15,6 +14,6 @@ touched : (graph : Graph) (object : ObjId) (frames : Framed) → (touch graph ob
 unfolding touch
 touched graph object frames = touched_in frames.scopes graph object frames
 
-pub kept_scopes : (graph : Graph) (object : ObjId) (old now : Framed) (r : Result (Unit {0}) Refusal) → OnOk r (now ≡ touch graph object old) → OnErr r (now ≡ old) → now.scopes ≡ old.scopes
+pub kept_scopes : {E : Type 0} (graph : Graph) (object : ObjId) (old now : Framed) (r : Result (Unit {0}) E) → OnOk r (now ≡ touch graph object old) → OnErr r (now ≡ old) → now.scopes ≡ old.scopes
 kept_scopes graph object old now (Ok u) is none = ap (λ (f : Framed). f.scopes) is ∙ touched graph object old
 kept_scopes graph object old now (Err e) none is = ap (λ (f : Framed). f.scopes) is

@@ -11,4 +11,4 @@ mod touches;
 
 pub use records::put_records;
 pub use same::{same_cell, same_object};
-pub use touched::{touch_for_mark, touch_for_value, touch_if};
+pub use touched::{touch_for_link, touch_for_mark, touch_for_orphan, touch_for_value, touch_if};

@@ -60,21 +60,9 @@ fn put_record(arena: &mut Arena, object: ObjId, new: Object)
         links,
     } = new;
     put_state(arena, object, state, identity);
-    put_marks(arena, object, added, marked, orphan);
+    arena.put_marks(object, added, marked, orphan);
     put_cells(arena, object, cells);
     put_links(arena, object, links);
-}
-
-/// An object gets an add number and marks.
-fn put_marks(arena: &mut Arena, object: ObjId, added: u64, marked: bool, orphan: bool)
-    requires { IsObject arena.old object }
-    ensures { arena.new ≡ with_object arena.old object
-        (way.with_own_marks added marked orphan (object_at arena.old object)) }
-{
-    match arena.put_marks(object, added, marked, orphan) {
-        Ok(()) => {}
-        Err(_never) => {}
-    }
 }
 
 #[tactic(auto, using(crate::proofs::PutSteps::puts))]
@@ -106,10 +94,7 @@ fn put_cell(arena: &mut Arena, object: ObjId, place: usize, cell: Cell)
     requires few { place < 4294967295 }
     ensures { arena.new ≡ with_cell arena.old object (record { 0 = place }) cell }
 {
-    match arena.put_cell(object, AttrNo(place as u32), cell) {
-        Ok(()) => {}
-        Err(_never) => {}
-    }
+    arena.put_cell(object, AttrNo(place as u32), cell);
 }
 
 #[tactic(auto, using(crate::proofs::PutSteps::puts))]
@@ -135,8 +120,5 @@ fn put_link(arena: &mut Arena, object: ObjId, place: usize, link: Link)
     requires few { place < 4294967295 }
     ensures { arena.new ≡ with_link arena.old object (record { 0 = place }) link }
 {
-    match arena.put_link(object, RelNo(place as u32), link) {
-        Ok(()) => {}
-        Err(_never) => {}
-    }
+    arena.put_link(object, RelNo(place as u32), link);
 }

@@ -1,7 +1,6 @@
 //! Other records for objects.
 
-ghost use Rattle.std.specs.Prelude.{◌≡◌, length, IfErr, OnErr, OnOk};
-ghost use Rattle.base_core.specs.declared.refusal.Refusal.TheVariants.{Memory};
+ghost use Rattle.std.specs.Prelude.{◌≡◌, length, OnErr, OnOk};
 ghost use Rattle.object_arena.specs.Every.{classes_of, each_placed};
 ghost use Rattle.object_records.specs.Touched.{frames_touched_between};
 ghost use Rattle.object_records.specs.Records as spec;
@@ -10,21 +9,23 @@ ghost use Rattle.object_records.specs.Way as way;
 use crate::puts::put_all;
 use crate::states::step_aside;
 use crate::touches::touch_all;
-use base_core::{ListOf, Refusal};
+use base_core::ListOf;
 use object_arena::{Arena, Object};
 use savepoints::Frames;
+use std::alloc::AllocError;
 
 /// Each object gets the record at its place, where there is one. Before that each object whose record comes to differ is touched in
 /// the innermost scope, and no other. Time grows as the logarithm of the number of objects for each record, and an object that gets
 /// none takes no memory.
 ///
 /// # Errors
-/// `Memory` alone: some objects may have been touched then, and no record has changed.
+///
+/// Where memory runs out, some objects may have been touched then, and no record has changed.
 pub fn put_records(
     arena: &mut Arena,
     frames: &mut Frames,
     records: ListOf<Option<Object>>,
-) -> Result<(), Refusal>
+) -> Result<(), AllocError>
     requires long { length records ≡ length arena.old.objects }
     requires follow { spec.CanFollow arena.old (spec.with_records arena.old records).objects }
     ensures ok { OnOk result (arena.new ≡ spec.with_records arena.old records) }
@@ -33,7 +34,6 @@ pub fn put_records(
     ensures err { OnErr result (arena.new ≡ arena.old) }
     ensures classes { classes_of arena.new ≡ classes_of arena.old }
     ensures scopes { frames.new.scopes ≡ frames.old.scopes }
-    ensures cause { IfErr result (λ e. e ≡ Memory) }
 {
     touch_all(frames, arena, records.as_slice())?;
     put_in(arena, records);

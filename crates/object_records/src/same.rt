@@ -42,7 +42,7 @@ fn same_end(one: Option<ObjId>, other: Option<ObjId>) -> bool
     }
 }
 
-fn same_bool(one: bool, other: bool) -> bool
+pub(crate) fn same_bool(one: bool, other: bool) -> bool
     ensures { result ≡ spec.same_bool one other }
 {
     if one { other } else { !other }
@@ -80,7 +80,7 @@ fn same_ids(one: &[ObjId], other: &[ObjId]) -> bool
 }
 
 /// Whether two links are the same, with what they keep.
-fn same_link(one: &Link, other: &Link) -> bool
+pub(crate) fn same_link(one: &Link, other: &Link) -> bool
     ensures { result ≡ spec.same_link one.now other.now }
 {
     match (one, other) {

@@ -1,14 +1,13 @@
 //! The foreign keys that are written after all rows.
 
-ghost use Rattle.std.specs.Prelude.{◌≡◌, ◌++◌, true, length, IfOk, IfErr, OnOk};
+ghost use Rattle.std.specs.Prelude.{◌≡◌, ◌++◌, true, length, IfOk, OnOk};
 ghost use Rattle.std.specs.List.{list_any};
-ghost use Rattle.base_core.specs.declared.refusal.Refusal.TheVariants.{Memory};
 ghost use Rattle.object_rows.specs.Late as spec;
 
-use base_core::{ClassId, ListOf, Refusal, TableId};
+use base_core::{ClassId, ListOf, TableId};
 use class_layouts::{foreigns_of, number_of};
 use class_mapping::{Mapping, Relation};
-use std::alloc::Global;
+use std::alloc::{AllocError, Global};
 
 fn some_late_by(relations: &[Relation], table: TableId, number: usize) -> bool
     ensures { result ≡ list_any (spec.is_late_by table number) relations.now }
@@ -22,7 +21,6 @@ fn some_late_by(relations: &[Relation], table: TableId, number: usize) -> bool
 #[tactic(auto, using(crate::proofs::Steps::range_steps))]
 /// Whether a relationship of some class says that a foreign key is written after all rows.
 fn is_late(mapping: &Mapping, table: TableId, number: usize) -> bool
-    requires { mapping.now.configured ≡ true }
     ensures { result ≡ spec.is_late mapping.now table number }
 {
     for class in 0..mapping.count() {
@@ -39,10 +37,8 @@ fn push_late_in(
     out: &mut ListOf<(TableId, u32)>,
     mapping: &Mapping,
     table: TableId,
-) -> Result<(), Refusal>
-    requires { mapping.now.configured ≡ true }
-    ensures keys { OnOk result (out.new ≡ out.old ++ spec.late_in mapping.now table) }
-    ensures cause { IfErr result (λ e. e ≡ Memory) }
+) -> Result<(), AllocError>
+    ensures { OnOk result (out.new ≡ out.old ++ spec.late_in mapping.now table) }
 {
     let foreigns = foreigns_of(mapping.schema(), table);
     for (number, _foreign) in foreigns.iter().enumerate() {
@@ -61,10 +57,8 @@ fn table_count(mapping: &Mapping) -> u32
 }
 
 /// The foreign keys that a flush writes after all rows, since a relationship by them says `post_update`: by table and number.
-pub fn late_keys(alloc: Global, mapping: &Mapping) -> Result<ListOf<(TableId, u32)>, Refusal>
-    requires { mapping.now.configured ≡ true }
-    ensures keys { IfOk result (λ keys. keys ≡ spec.late_keys mapping.now) }
-    ensures cause { IfErr result (λ e. e ≡ Memory) }
+pub fn late_keys(alloc: Global, mapping: &Mapping) -> Result<ListOf<(TableId, u32)>, AllocError>
+    ensures { IfOk result (λ keys. keys ≡ spec.late_keys mapping.now) }
 {
     let mut keys = ListOf::new(alloc);
     for table in 0..table_count(mapping) {

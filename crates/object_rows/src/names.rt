@@ -1,9 +1,8 @@
 //! The new objects in the order in which they were added, and the names of their rows.
 
-ghost use Rattle.std.specs.Prelude.{◌≡◌, ◌++◌, [], true, fold, length, map, IfOk, IfErr, OnOk};
+ghost use Rattle.std.specs.Prelude.{◌≡◌, ◌++◌, [], fold, length, map, IfOk, OnOk};
 ghost use Rattle.std.specs.List.{All, filter, flat_map};
 ghost use Rattle.std.specs.Map.{values_of};
-ghost use Rattle.base_core.specs.declared.refusal.Refusal.TheVariants.{Memory};
 ghost use Rattle.object_arena.specs.Graph.{IsObject};
 ghost use Rattle.object_arena.specs.Fit.{IsFit};
 ghost use Rattle.class_mapping.specs.Mapped.{tables_of};
@@ -14,21 +13,20 @@ use crate::places::RowNames;
 use crate::prepared::Prepared;
 use crate::sets::numbers_of;
 use crate::standing::{is_new_beside, keeps_rows_beside};
-use base_core::{ObjId, Refusal, RowName, TableId};
+use base_core::{ObjId, RowName, TableId};
 use class_mapping::Mapping;
 use object_arena::Arena;
-use std::alloc::Global;
+use std::alloc::{AllocError, Global};
 use std::collections::{BTreeMap, BTreeSet};
 
 /// The new objects by add number, and then by number.
 type Queue = BTreeMap<(u64, u32), ObjId>;
 
 #[tactic(auto, using(crate::proofs::ObjectSteps::id_steps), unfolding(crate::specs::Seen::object_ids))]
-/// The objects by number. The only refusal is `Memory`.
-pub fn object_ids(alloc: Global, arena: &Arena) -> Result<Vec<ObjId>, Refusal>
+/// The objects by number.
+pub fn object_ids(alloc: Global, arena: &Arena) -> Result<Vec<ObjId>, AllocError>
     ensures ids { IfOk result (λ ids. ids.items ≡ spec.object_ids arena.now) }
     ensures made { IfOk result (λ ids. All (IsObject arena.now) ids.items) }
-    ensures cause { IfErr result (λ e. e ≡ Memory) }
 {
     let mut ids = Vec::new(alloc);
     for number in 0..arena.count() {
@@ -44,12 +42,11 @@ fn put_in_queue(
     transient: &BTreeSet<u32>,
     queue: &mut Queue,
     object: ObjId,
-) -> Result<(), Refusal>
+) -> Result<(), AllocError>
     requires object { IsObject arena.now object }
     requires numbers { spec.AreNumbers prepared.now.transient transient.now }
-    ensures put { OnOk result (queue.new.entries
+    ensures { OnOk result (queue.new.entries
         ≡ spec.with_queued arena.now prepared.now queue.old.entries object) }
-    ensures cause { IfErr result (λ e. e ≡ Memory) }
 {
     if is_new_beside(arena, prepared, transient, object) {
         queue.insert((arena.object(object).added, object.0), object)?;
@@ -59,10 +56,9 @@ fn put_in_queue(
 
 #[tactic(auto, using(class_layouts::proofs::Steps::steps))]
 /// The new objects by their rank.
-fn queue(alloc: Global, arena: &Arena, prepared: &Prepared) -> Result<Queue, Refusal>
-    ensures queue { IfOk result (λ queue. queue.entries
+fn queue(alloc: Global, arena: &Arena, prepared: &Prepared) -> Result<Queue, AllocError>
+    ensures { IfOk result (λ queue. queue.entries
         ≡ fold (spec.with_queued arena.now prepared.now) [] (spec.object_ids arena.now)) }
-    ensures cause { IfErr result (λ e. e ≡ Memory) }
 {
     let transient = numbers_of(alloc, &prepared.transient)?;
     let ids = object_ids(alloc, arena)?;
@@ -75,31 +71,28 @@ fn queue(alloc: Global, arena: &Arena, prepared: &Prepared) -> Result<Queue, Ref
 
 #[tactic(auto, unfolding(crate::specs::Seen::new_objects))]
 /// The new objects in the order in which they were added.
-fn new_list(alloc: Global, arena: &Arena, prepared: &Prepared) -> Result<Vec<ObjId>, Refusal>
-    ensures objects { IfOk result
+fn new_list(alloc: Global, arena: &Arena, prepared: &Prepared) -> Result<Vec<ObjId>, AllocError>
+    ensures { IfOk result
         (λ objects. objects.items ≡ spec.new_objects arena.now prepared.now) }
-    ensures cause { IfErr result (λ e. e ≡ Memory) }
 {
     let queue = queue(alloc, arena, prepared)?;
     Ok(queue.into_values().collect(alloc)?)
 }
 
-/// These objects, which have been made. The only refusal is `Memory`.
-fn new_objects(alloc: Global, arena: &Arena, prepared: &Prepared) -> Result<Vec<ObjId>, Refusal>
+/// These objects, which have been made.
+fn new_objects(alloc: Global, arena: &Arena, prepared: &Prepared) -> Result<Vec<ObjId>, AllocError>
     ensures objects { IfOk result
         (λ objects. objects.items ≡ spec.new_objects arena.now prepared.now) }
     ensures made { IfOk result (λ objects. All (IsObject arena.now) objects.items) }
-    ensures cause { IfErr result (λ e. e ≡ Memory) }
 {
     let objects = new_list(alloc, arena, prepared)?;
     Ok(objects)
 }
 
 /// The objects that keep their rows.
-fn kept_list(alloc: Global, arena: &Arena, prepared: &Prepared) -> Result<Vec<ObjId>, Refusal>
-    ensures objects { IfOk result (λ objects. objects.items
+fn kept_list(alloc: Global, arena: &Arena, prepared: &Prepared) -> Result<Vec<ObjId>, AllocError>
+    ensures { IfOk result (λ objects. objects.items
         ≡ filter (spec.keeps_rows arena.now prepared.now) (spec.object_ids arena.now)) }
-    ensures cause { IfErr result (λ e. e ≡ Memory) }
 {
     let deleted = numbers_of(alloc, &prepared.deleted)?;
     let ids = object_ids(alloc, arena)?;
@@ -112,26 +105,24 @@ fn kept_list(alloc: Global, arena: &Arena, prepared: &Prepared) -> Result<Vec<Ob
     Ok(kept)
 }
 
-/// The objects that keep their rows, which have been made. The only refusal is `Memory`.
+/// The objects that keep their rows, which have been made.
 pub fn kept_objects(
     alloc: Global,
     arena: &Arena,
     prepared: &Prepared,
-) -> Result<Vec<ObjId>, Refusal>
+) -> Result<Vec<ObjId>, AllocError>
     ensures objects { IfOk result (λ objects. objects.items
         ≡ filter (spec.keeps_rows arena.now prepared.now) (spec.object_ids arena.now)) }
     ensures made { IfOk result (λ objects. All (IsObject arena.now) objects.items) }
-    ensures cause { IfErr result (λ e. e ≡ Memory) }
 {
     let objects = kept_list(alloc, arena, prepared)?;
     Ok(objects)
 }
 
 /// The rows of an object in these tables go behind others.
-fn push_names(out: &mut Vec<RowName>, object: ObjId, tables: &[TableId]) -> Result<(), Refusal>
-    ensures names { OnOk result (out.new.items
+fn push_names(out: &mut Vec<RowName>, object: ObjId, tables: &[TableId]) -> Result<(), AllocError>
+    ensures { OnOk result (out.new.items
         ≡ out.old.items ++ map (row_name object) tables.now) }
-    ensures cause { IfErr result (λ e. e ≡ Memory) }
 {
     for table in tables {
         out.push(RowName {
@@ -148,13 +139,11 @@ fn push_rows_of(
     mapping: &Mapping,
     arena: &Arena,
     object: ObjId,
-) -> Result<(), Refusal>
-    requires configured { mapping.now.configured ≡ true }
+) -> Result<(), AllocError>
     requires fit { IsFit mapping.now arena.now }
     requires object { IsObject arena.now object }
-    ensures names { OnOk result (out.new.items
+    ensures { OnOk result (out.new.items
         ≡ out.old.items ++ rows_of mapping.now arena.now object) }
-    ensures cause { IfErr result (λ e. e ≡ Memory) }
 {
     let class = arena.object(object).class;
     push_names(out, object, mapping.tables_of(class))
@@ -167,12 +156,10 @@ fn name_list(
     mapping: &Mapping,
     arena: &Arena,
     prepared: &Prepared,
-) -> Result<Vec<RowName>, Refusal>
-    requires configured { mapping.now.configured ≡ true }
+) -> Result<Vec<RowName>, AllocError>
     requires fit { IsFit mapping.now arena.now }
-    ensures names { IfOk result
+    ensures { IfOk result
         (λ names. names.items ≡ new_names mapping.now arena.now prepared.now) }
-    ensures cause { IfErr result (λ e. e ≡ Memory) }
 {
     let objects = new_objects(alloc, arena, prepared)?;
     let mut names = Vec::new(alloc);
@@ -182,19 +169,17 @@ fn name_list(
     Ok(names)
 }
 
-/// These rows, whose objects have been made, found by table and object. The only refusal is `Memory`.
+/// These rows, whose objects have been made, found by table and object.
 pub fn new_names(
     alloc: Global,
     mapping: &Mapping,
     arena: &Arena,
     prepared: &Prepared,
-) -> Result<RowNames, Refusal>
-    requires configured { mapping.now.configured ≡ true }
+) -> Result<RowNames, AllocError>
     requires fit { IsFit mapping.now arena.now }
     ensures names { IfOk result
         (λ names. names ≡ new_names mapping.now arena.now prepared.now) }
     ensures made { IfOk result (λ names. All (λ row. IsObject arena.now row.object) names) }
-    ensures cause { IfErr result (λ e. e ≡ Memory) }
 {
     let names = name_list(alloc, mapping, arena, prepared)?;
     RowNames::new(alloc, names)

@@ -1,15 +1,14 @@
 //! Names of rows, found by table and object.
 
-ghost use Rattle.std.specs.Prelude.{◌≡◌, [], cond, Some, IfOk, IfErr, OnOk};
+ghost use Rattle.std.specs.Prelude.{◌≡◌, [], cond, Some, IfOk, OnOk};
 ghost use Rattle.std.specs.BTreeMap.{get};
 ghost use Rattle.std.specs.List.{position};
 ghost use Rattle.base_core.specs.declared.ids.ObjId.{ObjId};
 ghost use Rattle.base_core.specs.declared.ids.TableId.{TableId};
-ghost use Rattle.base_core.specs.declared.refusal.Refusal.TheVariants.{Memory};
 ghost use Rattle.object_rows.specs.Places.{ArePlaces, is_row_of, name_cmp};
 
-use base_core::{ObjId, Refusal, RowName, TableId};
-use std::alloc::Global;
+use base_core::{ObjId, RowName, TableId};
+use std::alloc::{AllocError, Global};
 use std::collections::BTreeMap;
 use std::marker::Model;
 
@@ -36,11 +35,10 @@ impl Model for RowNames {
 }
 
 /// A row's place goes under its table and object.
-fn enter(places: &mut Places, row: RowName, place: usize) -> Result<(), Refusal>
-    ensures place { OnOk result ((table : TableId) (object : ObjId)
+fn enter(places: &mut Places, row: RowName, place: usize) -> Result<(), AllocError>
+    ensures { OnOk result ((table : TableId) (object : ObjId)
         → get name_cmp places.new (table, object)
         ≡ cond (is_row_of table object row) (Some place) (get name_cmp places.old (table, object))) }
-    ensures cause { IfErr result (λ e. e ≡ Memory) }
 {
     places.insert((row.table, row.object), place)?;
     Ok(())
@@ -48,9 +46,8 @@ fn enter(places: &mut Places, row: RowName, place: usize) -> Result<(), Refusal>
 
 #[tactic(auto, using(crate::proofs::PlaceSteps::place_steps))]
 /// The places of rows: each is entered after those behind it, so that the first of several stays.
-fn places_of(alloc: Global, names: &[RowName]) -> Result<Places, Refusal>
-    ensures places { IfOk result (λ places. ArePlaces names.now places) }
-    ensures cause { IfErr result (λ e. e ≡ Memory) }
+fn places_of(alloc: Global, names: &[RowName]) -> Result<Places, AllocError>
+    ensures { IfOk result (λ places. ArePlaces names.now places) }
 {
     let mut places = BTreeMap::new(alloc);
     for behind in 0..names.len() {
@@ -71,10 +68,9 @@ impl RowNames {
         }
     }
 
-    /// These names. The only refusal is `Memory`.
-    pub fn new(alloc: Global, names: Vec<RowName>) -> Result<RowNames, Refusal>
-        ensures names { IfOk result (λ all. all ≡ names.items) }
-        ensures cause { IfErr result (λ e. e ≡ Memory) }
+    /// These names.
+    pub fn new(alloc: Global, names: Vec<RowName>) -> Result<RowNames, AllocError>
+        ensures { IfOk result (λ all. all ≡ names.items) }
     {
         let places = places_of(alloc, names.as_slice())?;
         Ok(RowNames { names, places })

@@ -1,8 +1,7 @@
 //! Where objects stand once a flush is prepared, and what their links are.
 
-ghost use Rattle.std.specs.Prelude.{◌≡◌, IfOk, IfErr};
+ghost use Rattle.std.specs.Prelude.{◌≡◌, IfOk};
 ghost use Rattle.std.specs.Prelude.{slice_index_or};
-ghost use Rattle.base_core.specs.declared.refusal.Refusal.TheVariants.{Memory};
 ghost use Rattle.base_core.specs.declared.value.Value.TheVariants.{Null};
 ghost use Rattle.object_arena.specs.declared.object.Link.TheVariants.{Unset};
 ghost use Rattle.object_arena.specs.Graph.{is_among, is_pending, is_persistent, object_at};
@@ -10,9 +9,10 @@ ghost use Rattle.object_rows.specs.Seen as spec;
 ghost use Rattle.object_rows.specs.Cells.{key_value};
 
 use crate::prepared::Prepared;
-use base_core::{Copied, Key, ObjId, ObjList, Refusal, RelNo, Value};
+use base_core::{Copied, Key, ObjId, ObjList, RelNo, Value};
 use object_arena::{Arena, Link, State};
 use object_parts::changed_end;
+use std::alloc::AllocError;
 use std::collections::BTreeSet;
 
 /// An object's state; one that has not been made is transient.
@@ -139,10 +139,9 @@ pub fn end_put(
     None
 }
 
-/// A part of a key, or NULL. The only refusal is `Memory`.
-pub fn part_of_key(key: &Key, part: u32) -> Result<Value, Refusal>
-    ensures value { IfOk result (λ value. value ≡ slice_index_or key.now part Null) }
-    ensures cause { IfErr result (λ e. e ≡ Memory) }
+/// A part of a key, or NULL.
+pub fn part_of_key(key: &Key, part: u32) -> Result<Value, AllocError>
+    ensures { IfOk result (λ value. value ≡ slice_index_or key.now part Null) }
 {
     match key.get(part as usize) {
         Some(value) => Ok(value.copied()?),
@@ -150,10 +149,9 @@ pub fn part_of_key(key: &Key, part: u32) -> Result<Value, Refusal>
     }
 }
 
-/// A part of the key of an identity, or NULL. The only refusal is `Memory`.
-pub fn key_value(identity: &Option<Key>, part: u32) -> Result<Value, Refusal>
-    ensures value { IfOk result (λ value. value ≡ key_value identity.now part) }
-    ensures cause { IfErr result (λ e. e ≡ Memory) }
+/// A part of the key of an identity, or NULL.
+pub fn key_value(identity: &Option<Key>, part: u32) -> Result<Value, AllocError>
+    ensures { IfOk result (λ value. value ≡ key_value identity.now part) }
 {
     match identity {
         Some(key) => part_of_key(key, part),
@@ -161,11 +159,10 @@ pub fn key_value(identity: &Option<Key>, part: u32) -> Result<Value, Refusal>
     }
 }
 
-/// A part of the key that an object has, or NULL. The only refusal is `Memory`.
-pub fn identity_value(arena: &Arena, object: ObjId, part: u32) -> Result<Value, Refusal>
-    ensures value { IfOk result
+/// A part of the key that an object has, or NULL.
+pub fn identity_value(arena: &Arena, object: ObjId, part: u32) -> Result<Value, AllocError>
+    ensures { IfOk result
         (λ value. value ≡ key_value (object_at arena.now object).identity part) }
-    ensures cause { IfErr result (λ e. e ≡ Memory) }
 {
     let place = object.0.saturating_sub(1);
     if place < arena.count() {

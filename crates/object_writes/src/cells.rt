@@ -1,9 +1,8 @@
 //! What the changed links of an object give the columns of its foreign keys.
 
-ghost use Rattle.std.specs.Prelude.{◌≡◌, true, slice_get, Some, IfOk, IfErr};
+ghost use Rattle.std.specs.Prelude.{◌≡◌, true, slice_get, Some, IfOk};
 ghost use Rattle.std.specs.List.{All, position};
 ghost use Rattle.std.specs.Option.{option_copied};
-ghost use Rattle.base_core.specs.declared.refusal.Refusal.TheVariants.{Memory};
 ghost use Rattle.schema_core.specs.Catalog.{same_name, target_of};
 ghost use Rattle.class_layouts.specs.Faults.{foreigns_in};
 ghost use Rattle.object_arena.specs.Fit.{IsFit};
@@ -11,12 +10,13 @@ ghost use Rattle.object_arena.specs.Graph.{IsObject, object_at};
 ghost use Rattle.object_rows.specs.Cells as spec;
 ghost use Rattle.object_writes.specs.Ready.{IsReady};
 
-use base_core::{Name, ObjId, Refusal, RelNo, TableId, Value};
+use base_core::{Name, ObjId, RelNo, TableId, Value};
 use class_layouts::{foreigns_of, number_of};
 use class_mapping::{Mapping, Relation};
 use object_arena::Arena;
 use object_rows::{Prepared, RowNames, end_put, identity_value, is_kept_end};
 use schema_core::{ForeignSpec, RowCell, Schema};
+use std::alloc::AllocError;
 
 /// A prepared graph, with the names of its new rows in their order.
 #[derive(Drop)]
@@ -43,10 +43,9 @@ fn key_cell(
     place: Option<usize>,
     object: ObjId,
     part: u32,
-) -> Result<RowCell, Refusal>
-    ensures cell { IfOk result
+) -> Result<RowCell, AllocError>
+    ensures { IfOk result
         (λ cell. cell ≡ spec.key_cell place (object_at arena.now object).identity part) }
-    ensures cause { IfErr result (λ e. e ≡ Memory) }
 {
     match place {
         Some(place) => Ok(RowCell::KeyOf(number_of(place)?, part)),
@@ -75,10 +74,9 @@ impl<'a> Projection<'a> {
         table: Option<TableId>,
         part: u32,
         end: Option<ObjId>,
-    ) -> Result<RowCell, Refusal>
-        ensures cell { IfOk result (λ cell. cell
+    ) -> Result<RowCell, AllocError>
+        ensures { IfOk result (λ cell. cell
             ≡ spec.end_cell self.now.arena.now self.now.names.now table part end) }
-        ensures cause { IfErr result (λ e. e ≡ Memory) }
     {
         match end {
             Some(end) => {
@@ -95,10 +93,9 @@ impl<'a> Projection<'a> {
         foreign: &ForeignSpec,
         end: Option<ObjId>,
         part: usize,
-    ) -> Result<RowCell, Refusal>
-        ensures cell { IfOk result (λ cell. cell ≡ spec.end_cell self.now.arena.now
+    ) -> Result<RowCell, AllocError>
+        ensures { IfOk result (λ cell. cell ≡ spec.end_cell self.now.arena.now
             self.now.names.now (target_of self.now.mapping.now.schema foreign.now) part end) }
-        ensures cause { IfErr result (λ e. e ≡ Memory) }
     {
         let target = self.mapping.schema().find(&foreign.target);
         self.end_cell(target, number_of(part)?, end)
@@ -110,10 +107,9 @@ impl<'a> Projection<'a> {
         foreign: &ForeignSpec,
         end: Option<ObjId>,
         part: Option<usize>,
-    ) -> Result<Option<RowCell>, Refusal>
-        ensures cell { IfOk result (λ cell. cell ≡ spec.part_cell self.now.mapping.now.schema
+    ) -> Result<Option<RowCell>, AllocError>
+        ensures { IfOk result (λ cell. cell ≡ spec.part_cell self.now.mapping.now.schema
             self.now.arena.now self.now.names.now foreign.now end part) }
-        ensures cause { IfErr result (λ e. e ≡ Memory) }
     {
         match part {
             Some(part) => Ok(Some(self.column_cell(foreign, end, part)?)),
@@ -127,10 +123,9 @@ impl<'a> Projection<'a> {
         foreign: &ForeignSpec,
         name: &Name,
         end: Option<ObjId>,
-    ) -> Result<Option<RowCell>, Refusal>
-        ensures cell { IfOk result (λ cell. cell ≡ spec.foreign_cell self.now.mapping.now.schema
+    ) -> Result<Option<RowCell>, AllocError>
+        ensures { IfOk result (λ cell. cell ≡ spec.foreign_cell self.now.mapping.now.schema
             self.now.arena.now self.now.names.now name.now end (Some foreign.now)) }
-        ensures cause { IfErr result (λ e. e ≡ Memory) }
     {
         let part = place_of(foreign.columns.as_slice(), name);
         self.part_cell(foreign, end, part)
@@ -143,11 +138,10 @@ impl<'a> Projection<'a> {
         number: u32,
         name: &Name,
         end: Option<ObjId>,
-    ) -> Result<Option<RowCell>, Refusal>
-        ensures cell { IfOk result (λ cell. cell ≡ spec.foreign_cell self.now.mapping.now.schema
+    ) -> Result<Option<RowCell>, AllocError>
+        ensures { IfOk result (λ cell. cell ≡ spec.foreign_cell self.now.mapping.now.schema
             self.now.arena.now self.now.names.now name.now end
             (slice_get (foreigns_in self.now.mapping.now.schema.tables table) number)) }
-        ensures cause { IfErr result (λ e. e ≡ Memory) }
     {
         match foreign_at(self.mapping.schema(), table, number) {
             Some(foreign) => self.named_cell(foreign, name, end),
@@ -162,11 +156,10 @@ impl<'a> Projection<'a> {
         number: u32,
         name: &Name,
         put: Option<Option<ObjId>>,
-    ) -> Result<Option<RowCell>, Refusal>
-        ensures cell { IfOk result (λ cell. cell ≡ spec.put_cell self.now.mapping.now.schema
+    ) -> Result<Option<RowCell>, AllocError>
+        ensures { IfOk result (λ cell. cell ≡ spec.put_cell self.now.mapping.now.schema
             self.now.arena.now self.now.prepared.now self.now.names.now name.now
             (slice_get (foreigns_in self.now.mapping.now.schema.tables table) number) put) }
-        ensures cause { IfErr result (λ e. e ≡ Memory) }
     {
         match put {
             Some(end) => {
@@ -187,11 +180,10 @@ impl<'a> Projection<'a> {
         name: &Name,
         number: usize,
         relation: &Relation,
-    ) -> Result<Option<RowCell>, Refusal>
-        ensures cell { IfOk result (λ cell. cell ≡ spec.relation_cell self.now.mapping.now
+    ) -> Result<Option<RowCell>, AllocError>
+        ensures { IfOk result (λ cell. cell ≡ spec.relation_cell self.now.mapping.now
             self.now.arena.now self.now.prepared.now self.now.names.now object table name.now
             (number, relation.now)) }
-        ensures cause { IfErr result (λ e. e ≡ Memory) }
     {
         if relation.many || relation.foreign.0.0 != table.0 {
             return Ok(None);
@@ -202,18 +194,17 @@ impl<'a> Projection<'a> {
     }
 
     #[tactic(auto, using(class_layouts::proofs::Steps::steps, object_arena::proofs::FitLemmas::fit_class))]
-    /// What the changed links of an object give the column of a name in a table. The only refusal is `Memory`.
+    /// What the changed links of an object give the column of a name in a table.
     pub fn linked_cell(
         &self,
         object: ObjId,
         table: TableId,
         name: &Name,
-    ) -> Result<Option<RowCell>, Refusal>
+    ) -> Result<Option<RowCell>, AllocError>
         requires ready { IsReady self.now }
         requires object { IsObject self.now.arena.now object }
-        ensures cell { IfOk result (λ cell. cell ≡ spec.linked_cell self.now.mapping.now
+        ensures { IfOk result (λ cell. cell ≡ spec.linked_cell self.now.mapping.now
             self.now.arena.now self.now.prepared.now self.now.names.now object table name.now) }
-        ensures cause { IfErr result (λ e. e ≡ Memory) }
     {
         let relations = self.mapping.relations(self.arena.object(object).class);
         for (number, relation) in relations.iter().enumerate() {

@@ -1,8 +1,7 @@
 //! The rows that objects change.
 
-ghost use Rattle.std.specs.Prelude.{◌≡◌, ◌++◌, ◌∷◌, [], true, filter, map, IfOk, IfErr, OnOk};
+ghost use Rattle.std.specs.Prelude.{◌≡◌, ◌++◌, ◌∷◌, [], true, filter, map, IfOk, OnOk};
 ghost use Rattle.std.specs.List.{All, filter_map};
-ghost use Rattle.base_core.specs.declared.refusal.Refusal.TheVariants.{Memory};
 ghost use Rattle.object_arena.specs.Graph.{IsObject};
 ghost use Rattle.object_rows.specs.Cells.{linked_cell};
 ghost use Rattle.object_rows.specs.Rows as spec;
@@ -10,20 +9,19 @@ ghost use Rattle.object_writes.specs.Ready.{IsReady};
 
 use crate::cells::Projection;
 use crate::columns::{cell_for, columns_at};
-use base_core::{ColumnNo, Copied, Key, ListOf, ObjId, Refusal, RowName, TableId};
+use base_core::{ColumnNo, Copied, Key, ListOf, ObjId, RowName, TableId};
 use class_layouts::number_of;
 use object_arena::Cell;
 use object_rows::{kept_objects, linked_change, own_change};
 use schema_core::{ChangedRow, ColumnSpec, RowCell};
-use std::alloc::Global;
+use std::alloc::{AllocError, Global};
 
 /// Cells, each with its column.
 type Cells = ListOf<(ColumnNo, RowCell)>;
 
 /// The key of an identity, or an empty one.
-fn key_or_none(alloc: Global, identity: &Option<Key>) -> Result<Key, Refusal>
-    ensures key { IfOk result (λ key. key ≡ spec.key_or_none identity.now) }
-    ensures cause { IfErr result (λ e. e ≡ Memory) }
+fn key_or_none(alloc: Global, identity: &Option<Key>) -> Result<Key, AllocError>
+    ensures { IfOk result (λ key. key ≡ spec.key_or_none identity.now) }
 {
     match identity {
         Some(key) => Ok(key.copied()?),
@@ -39,13 +37,12 @@ impl<'a> Projection<'a> {
         table: TableId,
         column: &ColumnSpec,
         own: &Cell,
-    ) -> Result<Option<RowCell>, Refusal>
+    ) -> Result<Option<RowCell>, AllocError>
         requires ready { IsReady self.now }
         requires object { IsObject self.now.arena.now object }
-        ensures change { IfOk result (λ change. change ≡ spec.cell_change
+        ensures { IfOk result (λ change. change ≡ spec.cell_change
             (linked_cell self.now.mapping.now self.now.arena.now self.now.prepared.now
             self.now.names.now object table column.now.name) own.now) }
-        ensures cause { IfErr result (λ e. e ≡ Memory) }
     {
         match self.linked_cell(object, table, &column.name)? {
             Some(cell) => linked_change(&own.base, &cell),
@@ -61,13 +58,12 @@ impl<'a> Projection<'a> {
         table: TableId,
         number: usize,
         column: &ColumnSpec,
-    ) -> Result<Option<RowCell>, Refusal>
+    ) -> Result<Option<RowCell>, AllocError>
         requires ready { IsReady self.now }
         requires object { IsObject self.now.arena.now object }
-        ensures change { IfOk result (λ change. change ≡ spec.change_at self.now.mapping.now
+        ensures { IfOk result (λ change. change ≡ spec.change_at self.now.mapping.now
             self.now.arena.now self.now.prepared.now self.now.names.now object table
             (number, column.now)) }
-        ensures cause { IfErr result (λ e. e ≡ Memory) }
     {
         let record = self.arena.object(object);
         match cell_for(self.mapping, record, table, number) {
@@ -84,13 +80,12 @@ impl<'a> Projection<'a> {
         table: TableId,
         number: usize,
         column: &ColumnSpec,
-    ) -> Result<(), Refusal>
+    ) -> Result<(), AllocError>
         requires ready { IsReady self.now }
         requires object { IsObject self.now.arena.now object }
-        ensures change { OnOk result (out.new ≡ out.old ++ filter_map
+        ensures { OnOk result (out.new ≡ out.old ++ filter_map
             (spec.changed_cell self.now.mapping.now self.now.arena.now self.now.prepared.now
             self.now.names.now object table) ((number, column.now) ∷ [])) }
-        ensures cause { IfErr result (λ e. e ≡ Memory) }
     {
         if column.key {
             return Ok(());
@@ -104,12 +99,16 @@ impl<'a> Projection<'a> {
 
     #[tactic(auto, using(class_layouts::proofs::Steps::steps))]
     /// The cells that change of an object's row in a table. Takes no memory where there are none.
-    fn changed_cells(&self, alloc: Global, object: ObjId, table: TableId) -> Result<Cells, Refusal>
+    fn changed_cells(
+        &self,
+        alloc: Global,
+        object: ObjId,
+        table: TableId,
+    ) -> Result<Cells, AllocError>
         requires ready { IsReady self.now }
         requires object { IsObject self.now.arena.now object }
-        ensures cells { IfOk result (λ cells. cells ≡ spec.changed_cells self.now.mapping.now
+        ensures { IfOk result (λ cells. cells ≡ spec.changed_cells self.now.mapping.now
             self.now.arena.now self.now.prepared.now self.now.names.now object table) }
-        ensures cause { IfErr result (λ e. e ≡ Memory) }
     {
         let columns = columns_at(self.mapping, table);
         let mut cells = ListOf::new(alloc);
@@ -126,13 +125,12 @@ impl<'a> Projection<'a> {
         out: &mut ListOf<ChangedRow>,
         object: ObjId,
         table: TableId,
-    ) -> Result<(), Refusal>
+    ) -> Result<(), AllocError>
         requires ready { IsReady self.now }
         requires object { IsObject self.now.arena.now object }
-        ensures row { OnOk result (out.new ≡ out.old ++ filter spec.has_cells
+        ensures { OnOk result (out.new ≡ out.old ++ filter spec.has_cells
             (map (spec.changed_row self.now.mapping.now self.now.arena.now
             self.now.prepared.now self.now.names.now object) (table ∷ []))) }
-        ensures cause { IfErr result (λ e. e ≡ Memory) }
     {
         let cells = self.changed_cells(alloc, object, table)?;
         if cells.is_empty() {
@@ -153,12 +151,11 @@ impl<'a> Projection<'a> {
         alloc: Global,
         out: &mut ListOf<ChangedRow>,
         object: ObjId,
-    ) -> Result<(), Refusal>
+    ) -> Result<(), AllocError>
         requires ready { IsReady self.now }
         requires object { IsObject self.now.arena.now object }
-        ensures rows { OnOk result (out.new ≡ out.old ++ spec.rows_changed self.now.mapping.now
+        ensures { OnOk result (out.new ≡ out.old ++ spec.rows_changed self.now.mapping.now
             self.now.arena.now self.now.prepared.now self.now.names.now object) }
-        ensures cause { IfErr result (λ e. e ≡ Memory) }
     {
         for table in self.mapping.tables_of(self.arena.object(object).class) {
             self.push_changed(alloc, out, object, *table)?;
@@ -168,11 +165,10 @@ impl<'a> Projection<'a> {
 
     #[tactic(auto, using(class_layouts::proofs::Steps::steps), unfolding(object_rows::specs::Rows::changed_rows))]
     /// The rows with changed cells of each object that keeps its rows.
-    pub fn changed_rows(&self, alloc: Global) -> Result<ListOf<ChangedRow>, Refusal>
+    pub fn changed_rows(&self, alloc: Global) -> Result<ListOf<ChangedRow>, AllocError>
         requires ready { IsReady self.now }
-        ensures rows { IfOk result (λ rows. rows
+        ensures { IfOk result (λ rows. rows
             ≡ spec.changed_rows self.now.mapping.now self.now.arena.now self.now.prepared.now) }
-        ensures cause { IfErr result (λ e. e ≡ Memory) }
     {
         let objects = kept_objects(alloc, self.arena, self.prepared)?;
         let mut rows = ListOf::new(alloc);

@@ -1,19 +1,19 @@
 //! The cells of an object in the columns of a table, and what a column is.
 
-ghost use Rattle.std.specs.Prelude.{◌≡◌, ◌≤◌, ◌<◌, true, length, take, IfOk, IfErr, IfSome};
+ghost use Rattle.std.specs.Prelude.{◌≡◌, ◌≤◌, ◌<◌, length, take, IfOk, IfSome};
 ghost use Rattle.std.specs.List.{count_by, position};
 ghost use Rattle.std.specs.Option.{option_copied};
-ghost use Rattle.base_core.specs.declared.refusal.Refusal.TheVariants.{Memory};
 ghost use Rattle.schema_core.specs.Tables.{value_or_null};
 ghost use Rattle.class_layouts.specs.Faults.{is_named};
 ghost use Rattle.class_mapping.specs.Mapped.{IsClass, class_spec};
 ghost use Rattle.object_rows.specs.Rows as spec;
 
-use base_core::{ClassId, Copied, Name, Refusal, TableId, Value};
+use base_core::{ClassId, Copied, Name, TableId, Value};
 use class_layouts::columns_of;
 use class_mapping::{Attribute, Mapping};
 use object_arena::{Cell, Object};
 use schema_core::ColumnSpec;
+use std::alloc::AllocError;
 
 /// The place of the attribute that is a column of a table.
 fn place_at(attributes: &[Attribute], table: TableId, column: usize) -> Option<usize>
@@ -32,7 +32,6 @@ pub fn cell_for<'a>(
     column: usize,
 ) -> Option<&'a Cell>
     requires declared { IsClass mapping.now object.now.class }
-    requires configured { mapping.now.configured ≡ true }
     ensures { option_copied result ≡ spec.cell_for mapping.now object.now table column }
 {
     match place_at(mapping.attributes(object.class), table, column) {
@@ -42,9 +41,8 @@ pub fn cell_for<'a>(
 }
 
 /// A value that is known, or NULL.
-fn value_or_null(value: &Option<Value>) -> Result<Value, Refusal>
-    ensures value { IfOk result (λ copy. copy ≡ value_or_null value.now) }
-    ensures cause { IfErr result (λ e. e ≡ Memory) }
+fn value_or_null(value: &Option<Value>) -> Result<Value, AllocError>
+    ensures { IfOk result (λ copy. copy ≡ value_or_null value.now) }
 {
     match value {
         Some(value) => Ok(value.copied()?),
@@ -58,12 +56,10 @@ pub(crate) fn value_now(
     object: &Object,
     table: TableId,
     column: usize,
-) -> Result<Value, Refusal>
+) -> Result<Value, AllocError>
     requires declared { IsClass mapping.now object.now.class }
-    requires configured { mapping.now.configured ≡ true }
-    ensures value { IfOk result (λ value. value
+    ensures { IfOk result (λ value. value
         ≡ spec.value_now (spec.cell_for mapping.now object.now table column)) }
-    ensures cause { IfErr result (λ e. e ≡ Memory) }
 {
     match cell_for(mapping, object, table, column) {
         Some(cell) => value_or_null(&cell.value),
@@ -77,12 +73,10 @@ pub(crate) fn value_before(
     object: &Object,
     table: TableId,
     column: usize,
-) -> Result<Value, Refusal>
+) -> Result<Value, AllocError>
     requires declared { IsClass mapping.now object.now.class }
-    requires configured { mapping.now.configured ≡ true }
-    ensures value { IfOk result (λ value. value
+    ensures { IfOk result (λ value. value
         ≡ spec.value_before (spec.cell_for mapping.now object.now table column)) }
-    ensures cause { IfErr result (λ e. e ≡ Memory) }
 {
     match cell_for(mapping, object, table, column) {
         Some(cell) => value_or_null(&cell.base),
@@ -136,11 +130,10 @@ pub(crate) fn is_discriminator(
 }
 
 /// The identity of a class, or NULL.
-pub(crate) fn class_identity(mapping: &Mapping, class: ClassId) -> Result<Value, Refusal>
+pub(crate) fn class_identity(mapping: &Mapping, class: ClassId) -> Result<Value, AllocError>
     requires { IsClass mapping.now class }
-    ensures value { IfOk result
+    ensures { IfOk result
         (λ value. value ≡ value_or_null (class_spec mapping.now class).identity) }
-    ensures cause { IfErr result (λ e. e ≡ Memory) }
 {
     value_or_null(&mapping.spec_of(class).identity)
 }

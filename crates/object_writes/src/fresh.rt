@@ -1,8 +1,7 @@
 //! The rows that new objects make.
 
-ghost use Rattle.std.specs.Prelude.{◌≡◌, ◌<◌, true, length, map, slice_get, Some, IfOk, IfErr};
+ghost use Rattle.std.specs.Prelude.{◌≡◌, ◌<◌, true, length, map, slice_get, Some, IfOk};
 ghost use Rattle.std.specs.List.{All, enumerate_from};
-ghost use Rattle.base_core.specs.declared.refusal.Refusal.TheVariants.{Memory};
 ghost use Rattle.object_arena.specs.Graph.{IsObject};
 ghost use Rattle.object_rows.specs.Rows as spec;
 ghost use Rattle.object_writes.specs.Ready.{IsReady};
@@ -11,21 +10,25 @@ use crate::cells::Projection;
 use crate::columns::{
     class_identity, columns_at, is_discriminator, is_joined, key_part, value_now,
 };
-use base_core::{ListOf, Refusal, RowName};
+use base_core::{ListOf, RowName};
 use class_layouts::number_of;
 use schema_core::{ColumnSpec, NewRow, RowCell};
-use std::alloc::Global;
+use std::alloc::{AllocError, Global};
 
 impl<'a> Projection<'a> {
     #[tactic(auto, using(object_arena::proofs::FitLemmas::fit_class))]
     /// What a column of a new row holds that is no part of the key of a row before it.
-    fn own_cell(&self, row: RowName, number: usize, column: &ColumnSpec) -> Result<RowCell, Refusal>
+    fn own_cell(
+        &self,
+        row: RowName,
+        number: usize,
+        column: &ColumnSpec,
+    ) -> Result<RowCell, AllocError>
         requires ready { IsReady self.now }
         requires object { IsObject self.now.arena.now row.object }
-        ensures cell { IfOk result (λ cell. cell ≡ spec.own_cell self.now.mapping.now
+        ensures { IfOk result (λ cell. cell ≡ spec.own_cell self.now.mapping.now
             self.now.arena.now self.now.prepared.now self.now.names.now row
             (number, column.now)) }
-        ensures cause { IfErr result (λ e. e ≡ Memory) }
     {
         let object = self.arena.object(row.object);
         if is_discriminator(self.mapping, object.class, row.table, &column.name) {
@@ -47,15 +50,14 @@ impl<'a> Projection<'a> {
         columns: &[ColumnSpec],
         number: usize,
         column: &ColumnSpec,
-    ) -> Result<RowCell, Refusal>
+    ) -> Result<RowCell, AllocError>
         requires ready { IsReady self.now }
         requires object { IsObject self.now.arena.now row.object }
         requires columns { columns.now ≡ spec.columns_at self.now.mapping.now row.table }
         requires inside { number < length columns.now }
-        ensures cell { IfOk result (λ cell. cell ≡ spec.new_cell self.now.mapping.now
+        ensures { IfOk result (λ cell. cell ≡ spec.new_cell self.now.mapping.now
             self.now.arena.now self.now.prepared.now self.now.names.now (place, row)
             (number, column.now)) }
-        ensures cause { IfErr result (λ e. e ≡ Memory) }
     {
         let class = self.arena.object(row.object).class;
         if is_joined(self.mapping, class, row.table) && column.key {
@@ -67,12 +69,11 @@ impl<'a> Projection<'a> {
 
     #[tactic(auto, using(class_layouts::proofs::Steps::steps))]
     /// The new row at a place.
-    fn new_row(&self, alloc: Global, place: usize, row: RowName) -> Result<NewRow, Refusal>
+    fn new_row(&self, alloc: Global, place: usize, row: RowName) -> Result<NewRow, AllocError>
         requires ready { IsReady self.now }
         requires object { IsObject self.now.arena.now row.object }
-        ensures row { IfOk result (λ new. new ≡ spec.new_row self.now.mapping.now
+        ensures { IfOk result (λ new. new ≡ spec.new_row self.now.mapping.now
             self.now.arena.now self.now.prepared.now self.now.names.now (place, row)) }
-        ensures cause { IfErr result (λ e. e ≡ Memory) }
     {
         let columns = columns_at(self.mapping, row.table);
         let mut cells = ListOf::new(alloc);
@@ -84,12 +85,11 @@ impl<'a> Projection<'a> {
 
     #[tactic(auto, using(class_layouts::proofs::Steps::steps), unfolding(object_rows::specs::Rows::new_rows))]
     /// A row for each table of each new object.
-    pub fn new_rows(&self, alloc: Global) -> Result<ListOf<NewRow>, Refusal>
+    pub fn new_rows(&self, alloc: Global) -> Result<ListOf<NewRow>, AllocError>
         requires ready { IsReady self.now }
         requires made { All (λ row. IsObject self.now.arena.now row.object) self.now.names.now }
-        ensures rows { IfOk result (λ rows. rows
+        ensures { IfOk result (λ rows. rows
             ≡ spec.new_rows self.now.mapping.now self.now.arena.now self.now.prepared.now) }
-        ensures cause { IfErr result (λ e. e ≡ Memory) }
     {
         let names = self.names.as_slice();
         let mut rows = ListOf::new(alloc);

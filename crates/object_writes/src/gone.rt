@@ -1,8 +1,7 @@
 //! The rows that objects take away.
 
-ghost use Rattle.std.specs.Prelude.{◌≡◌, ◌<◌, ◌++◌, true, length, map, IfOk, IfErr, OnOk};
+ghost use Rattle.std.specs.Prelude.{◌≡◌, ◌<◌, ◌++◌, length, map, IfOk, OnOk};
 ghost use Rattle.std.specs.List.{All};
-ghost use Rattle.base_core.specs.declared.refusal.Refusal.TheVariants.{Memory};
 ghost use Rattle.class_mapping.specs.Mapped.{IsClass};
 ghost use Rattle.object_arena.specs.Fit.{IsFit};
 ghost use Rattle.object_arena.specs.Graph.{IsObject, object_at};
@@ -10,13 +9,13 @@ ghost use Rattle.object_rows.specs.Rows as spec;
 ghost use Rattle.object_rows.specs.Seen.{AreMade};
 
 use crate::columns::{columns_at, is_joined, key_part, value_before};
-use base_core::{ListOf, ObjId, Refusal, RowName, TableId, Value};
+use base_core::{ListOf, ObjId, RowName, TableId, Value};
 use class_layouts::number_of;
 use class_mapping::Mapping;
 use object_arena::{Arena, Object};
 use object_rows::{Prepared, key_value};
 use schema_core::{ColumnSpec, GoneRow};
-use std::alloc::Global;
+use std::alloc::{AllocError, Global};
 
 /// What the row of an object had in a column.
 fn gone_cell(
@@ -26,14 +25,12 @@ fn gone_cell(
     columns: &[ColumnSpec],
     number: usize,
     column: &ColumnSpec,
-) -> Result<Value, Refusal>
+) -> Result<Value, AllocError>
     requires declared { IsClass mapping.now object.now.class }
-    requires configured { mapping.now.configured ≡ true }
     requires columns { columns.now ≡ spec.columns_at mapping.now table }
     requires inside { number < length columns.now }
-    ensures cell { IfOk result (λ value. value
+    ensures { IfOk result (λ value. value
         ≡ spec.gone_cell mapping.now object.now table (number, column.now)) }
-    ensures cause { IfErr result (λ e. e ≡ Memory) }
 {
     if is_joined(mapping, object.class, table) && column.key {
         let part = number_of(key_part(columns, number))?;
@@ -50,12 +47,10 @@ fn gone_row(
     arena: &Arena,
     object: ObjId,
     table: TableId,
-) -> Result<GoneRow, Refusal>
-    requires configured { mapping.now.configured ≡ true }
+) -> Result<GoneRow, AllocError>
     requires fit { IsFit mapping.now arena.now }
     requires object { IsObject arena.now object }
-    ensures row { IfOk result (λ row. row ≡ spec.gone_row mapping.now arena.now object table) }
-    ensures cause { IfErr result (λ e. e ≡ Memory) }
+    ensures { IfOk result (λ row. row ≡ spec.gone_row mapping.now arena.now object table) }
 {
     let record = arena.object(object);
     let columns = columns_at(mapping, table);
@@ -77,13 +72,11 @@ fn push_rows_gone(
     mapping: &Mapping,
     arena: &Arena,
     object: ObjId,
-) -> Result<(), Refusal>
-    requires configured { mapping.now.configured ≡ true }
+) -> Result<(), AllocError>
     requires fit { IsFit mapping.now arena.now }
     requires object { IsObject arena.now object }
-    ensures rows { OnOk result (out.new
+    ensures { OnOk result (out.new
         ≡ out.old ++ spec.rows_gone mapping.now arena.now object) }
-    ensures cause { IfErr result (λ e. e ≡ Memory) }
 {
     for table in mapping.tables_of(arena.object(object).class) {
         out.push(gone_row(alloc, mapping, arena, object, *table)?)?;
@@ -98,13 +91,11 @@ pub fn gone_rows(
     arena: &Arena,
     mapping: &Mapping,
     prepared: &Prepared,
-) -> Result<ListOf<GoneRow>, Refusal>
-    requires configured { mapping.now.configured ≡ true }
+) -> Result<ListOf<GoneRow>, AllocError>
     requires fit { IsFit mapping.now arena.now }
     requires made { AreMade arena.now prepared.now }
-    ensures rows { IfOk result
+    ensures { IfOk result
         (λ rows. rows ≡ spec.gone_rows mapping.now arena.now prepared.now) }
-    ensures cause { IfErr result (λ e. e ≡ Memory) }
 {
     let mut rows = ListOf::new(alloc);
     for object in prepared.deleted.as_slice() {

@@ -1,18 +1,16 @@
 //! What collections hold, gained and lost.
 
-ghost use Rattle.std.specs.Prelude.{◌≡◌, IfOk, IfErr};
-ghost use Rattle.base_core.specs.declared.refusal.Refusal.TheVariants.{Memory};
+ghost use Rattle.std.specs.Prelude.{◌≡◌, IfOk};
 ghost use Rattle.pair_rows.specs.Pairs as spec;
 
-use base_core::{Copied, ListOf, ObjId, ObjList, Refusal};
+use base_core::{Copied, ListOf, ObjId, ObjList};
 use object_arena::Link;
 use object_rows::is_among;
-use std::alloc::Global;
+use std::alloc::{AllocError, Global};
 
 /// The objects of a list that are not in another.
-fn without(alloc: Global, others: &ObjList, objects: &ObjList) -> Result<ObjList, Refusal>
-    ensures rest { IfOk result (λ rest. rest ≡ spec.without others.now objects.now) }
-    ensures cause { IfErr result (λ e. e ≡ Memory) }
+fn without(alloc: Global, others: &ObjList, objects: &ObjList) -> Result<ObjList, AllocError>
+    ensures { IfOk result (λ rest. rest ≡ spec.without others.now objects.now) }
 {
     let mut rest = ListOf::new(alloc);
     for object in objects.as_slice() {
@@ -24,9 +22,8 @@ fn without(alloc: Global, others: &ObjList, objects: &ObjList) -> Result<ObjList
 }
 
 /// The members that a collection was given.
-pub fn members_added(alloc: Global, link: &Link) -> Result<ObjList, Refusal>
-    ensures members { IfOk result (λ members. members ≡ spec.members_added link.now) }
-    ensures cause { IfErr result (λ e. e ≡ Memory) }
+pub fn members_added(alloc: Global, link: &Link) -> Result<ObjList, AllocError>
+    ensures { IfOk result (λ members. members ≡ spec.members_added link.now) }
 {
     match link {
         Link::Unloaded { added, .. } => Ok(added.copied()?),
@@ -36,9 +33,8 @@ pub fn members_added(alloc: Global, link: &Link) -> Result<ObjList, Refusal>
 }
 
 /// The members that a collection lost.
-pub fn members_removed(alloc: Global, link: &Link) -> Result<ObjList, Refusal>
-    ensures members { IfOk result (λ members. members ≡ spec.members_removed link.now) }
-    ensures cause { IfErr result (λ e. e ≡ Memory) }
+pub fn members_removed(alloc: Global, link: &Link) -> Result<ObjList, AllocError>
+    ensures { IfOk result (λ members. members ≡ spec.members_removed link.now) }
 {
     match link {
         Link::Unloaded { removed, .. } => Ok(removed.copied()?),

@@ -1,20 +1,19 @@
 //! The rows of secondary tables that are made and taken away.
 
-ghost use Rattle.std.specs.Prelude.{◌≡◌, ◌++◌, ◌∷◌, [], true, fold, map, slice_index_or, IfOk, IfErr, OnOk};
+ghost use Rattle.std.specs.Prelude.{◌≡◌, ◌++◌, ◌∷◌, [], fold, map, slice_index_or, IfOk, OnOk};
 ghost use Rattle.std.specs.BTreeSet.{insert_key};
 ghost use Rattle.std.specs.List.{All, filter, flat_map};
-ghost use Rattle.base_core.specs.declared.refusal.Refusal.TheVariants.{Memory};
 ghost use Rattle.object_arena.specs.Fit.{IsFit};
 ghost use Rattle.object_arena.specs.Graph.{IsObject, object_at};
 ghost use Rattle.pair_rows.specs.Pairs as spec;
 
 use crate::members::{members_added, members_before, members_removed};
 use crate::standing::{has_key, is_leaving, link_or};
-use base_core::{ObjId, Refusal, TableId};
+use base_core::{ObjId, TableId};
 use class_mapping::{Mapping, Relation};
 use object_arena::{Arena, Link};
 use object_rows::{Prepared, is_in_session, object_ids};
-use std::alloc::Global;
+use std::alloc::{AllocError, Global};
 use std::collections::BTreeSet;
 
 /// A secondary table, the object of its first foreign key and that of its second.
@@ -60,11 +59,10 @@ fn push_made(
     object: ObjId,
     relation: &Relation,
     members: &[ObjId],
-) -> Result<(), Refusal>
-    ensures pairs { OnOk result (out.new.items ≡ out.old.items
+) -> Result<(), AllocError>
+    ensures { OnOk result (out.new.items ≡ out.old.items
         ++ map (spec.pair_of relation.now object)
         (filter (spec.is_made arena.now prepared.now object) members.now)) }
-    ensures cause { IfErr result (λ e. e ≡ Memory) }
 {
     for member in members {
         if is_made(arena, prepared, object, *member) {
@@ -82,11 +80,10 @@ fn push_lost(
     object: ObjId,
     relation: &Relation,
     members: &[ObjId],
-) -> Result<(), Refusal>
-    ensures pairs { OnOk result (out.new.items ≡ out.old.items
+) -> Result<(), AllocError>
+    ensures { OnOk result (out.new.items ≡ out.old.items
         ++ map (spec.pair_of relation.now object)
         (filter (spec.is_lost arena.now prepared.now object) members.now)) }
-    ensures cause { IfErr result (λ e. e ≡ Memory) }
 {
     for member in members {
         if is_lost(arena, prepared, object, *member) {
@@ -104,11 +101,10 @@ fn push_parted(
     object: ObjId,
     relation: &Relation,
     members: &[ObjId],
-) -> Result<(), Refusal>
-    ensures pairs { OnOk result (out.new.items ≡ out.old.items
+) -> Result<(), AllocError>
+    ensures { OnOk result (out.new.items ≡ out.old.items
         ++ map (spec.pair_of relation.now object)
         (filter (spec.is_parted arena.now prepared.now) members.now)) }
-    ensures cause { IfErr result (λ e. e ≡ Memory) }
 {
     for member in members {
         if is_parted(arena, prepared, *member) {
@@ -127,10 +123,9 @@ fn push_made_from(
     object: ObjId,
     relation: &Relation,
     link: &Link,
-) -> Result<(), Refusal>
-    ensures pairs { OnOk result (out.new.items ≡ out.old.items
+) -> Result<(), AllocError>
+    ensures { OnOk result (out.new.items ≡ out.old.items
         ++ spec.made_from arena.now prepared.now object relation.now link.now) }
-    ensures cause { IfErr result (λ e. e ≡ Memory) }
 {
     let members = members_added(alloc, link)?;
     push_made(out, arena, prepared, object, relation, members.as_slice())
@@ -145,10 +140,9 @@ fn push_lost_from(
     object: ObjId,
     relation: &Relation,
     link: &Link,
-) -> Result<(), Refusal>
-    ensures pairs { OnOk result (out.new.items ≡ out.old.items
+) -> Result<(), AllocError>
+    ensures { OnOk result (out.new.items ≡ out.old.items
         ++ spec.lost_from arena.now prepared.now object relation.now link.now) }
-    ensures cause { IfErr result (λ e. e ≡ Memory) }
 {
     let removed = members_removed(alloc, link)?;
     push_lost(out, arena, prepared, object, relation, members_before(link))?;
@@ -164,11 +158,10 @@ fn push_made_by(
     object: ObjId,
     number: usize,
     relation: &Relation,
-) -> Result<(), Refusal>
+) -> Result<(), AllocError>
     requires object { IsObject arena.now object }
-    ensures pairs { OnOk result (out.new.items ≡ out.old.items
+    ensures { OnOk result (out.new.items ≡ out.old.items
         ++ spec.made_by arena.now prepared.now object (number, relation.now)) }
-    ensures cause { IfErr result (λ e. e ≡ Memory) }
 {
     if relation.far.is_none() {
         return Ok(());
@@ -187,11 +180,10 @@ fn push_lost_by(
     object: ObjId,
     number: usize,
     relation: &Relation,
-) -> Result<(), Refusal>
+) -> Result<(), AllocError>
     requires object { IsObject arena.now object }
-    ensures pairs { OnOk result (out.new.items ≡ out.old.items
+    ensures { OnOk result (out.new.items ≡ out.old.items
         ++ spec.lost_by arena.now prepared.now object (number, relation.now)) }
-    ensures cause { IfErr result (λ e. e ≡ Memory) }
 {
     if relation.far.is_none() {
         return Ok(());
@@ -210,13 +202,11 @@ fn push_made_of(
     arena: &Arena,
     prepared: &Prepared,
     object: ObjId,
-) -> Result<(), Refusal>
-    requires configured { mapping.now.configured ≡ true }
+) -> Result<(), AllocError>
     requires fit { IsFit mapping.now arena.now }
     requires object { IsObject arena.now object }
-    ensures pairs { OnOk result (out.new.items ≡ out.old.items
+    ensures { OnOk result (out.new.items ≡ out.old.items
         ++ spec.made_of mapping.now arena.now prepared.now object) }
-    ensures cause { IfErr result (λ e. e ≡ Memory) }
 {
     if !is_in_session(arena, prepared, object) {
         return Ok(());
@@ -237,13 +227,11 @@ fn push_lost_of(
     arena: &Arena,
     prepared: &Prepared,
     object: ObjId,
-) -> Result<(), Refusal>
-    requires configured { mapping.now.configured ≡ true }
+) -> Result<(), AllocError>
     requires fit { IsFit mapping.now arena.now }
     requires object { IsObject arena.now object }
-    ensures pairs { OnOk result (out.new.items ≡ out.old.items
+    ensures { OnOk result (out.new.items ≡ out.old.items
         ++ spec.lost_of mapping.now arena.now prepared.now object) }
-    ensures cause { IfErr result (λ e. e ≡ Memory) }
 {
     if !is_parted(arena, prepared, object) {
         return Ok(());
@@ -256,9 +244,8 @@ fn push_lost_of(
 }
 
 /// A pair is one of a set.
-fn enter(set: &mut BTreeSet<Pair>, pair: Pair) -> Result<(), Refusal>
-    ensures set { OnOk result (set.new.keys ≡ insert_key spec.pair_cmp set.old.keys pair) }
-    ensures cause { IfErr result (λ e. e ≡ Memory) }
+fn enter(set: &mut BTreeSet<Pair>, pair: Pair) -> Result<(), AllocError>
+    ensures { OnOk result (set.new.keys ≡ insert_key spec.pair_cmp set.old.keys pair) }
 {
     set.insert(pair)?;
     Ok(())
@@ -266,9 +253,8 @@ fn enter(set: &mut BTreeSet<Pair>, pair: Pair) -> Result<(), Refusal>
 
 #[tactic(auto, using(class_layouts::proofs::Steps::steps))]
 /// Pairs as a set, ascending.
-fn as_set(alloc: Global, pairs: &[Pair]) -> Result<Vec<Pair>, Refusal>
-    ensures set { IfOk result (λ set. set.items ≡ spec.as_set pairs.now) }
-    ensures cause { IfErr result (λ e. e ≡ Memory) }
+fn as_set(alloc: Global, pairs: &[Pair]) -> Result<Vec<Pair>, AllocError>
+    ensures { IfOk result (λ set. set.items ≡ spec.as_set pairs.now) }
 {
     let mut set = BTreeSet::new(alloc);
     for pair in pairs {
@@ -284,12 +270,10 @@ pub(crate) fn made_pairs(
     mapping: &Mapping,
     arena: &Arena,
     prepared: &Prepared,
-) -> Result<Vec<Pair>, Refusal>
-    requires configured { mapping.now.configured ≡ true }
+) -> Result<Vec<Pair>, AllocError>
     requires fit { IsFit mapping.now arena.now }
-    ensures pairs { IfOk result
+    ensures { IfOk result
         (λ pairs. pairs.items ≡ spec.made_pairs mapping.now arena.now prepared.now) }
-    ensures cause { IfErr result (λ e. e ≡ Memory) }
 {
     let objects = object_ids(alloc, arena)?;
     let mut pairs = Vec::new(alloc);
@@ -306,12 +290,10 @@ pub(crate) fn lost_pairs(
     mapping: &Mapping,
     arena: &Arena,
     prepared: &Prepared,
-) -> Result<Vec<Pair>, Refusal>
-    requires configured { mapping.now.configured ≡ true }
+) -> Result<Vec<Pair>, AllocError>
     requires fit { IsFit mapping.now arena.now }
-    ensures pairs { IfOk result
+    ensures { IfOk result
         (λ pairs. pairs.items ≡ spec.lost_pairs mapping.now arena.now prepared.now) }
-    ensures cause { IfErr result (λ e. e ≡ Memory) }
 {
     let objects = object_ids(alloc, arena)?;
     let mut pairs = Vec::new(alloc);

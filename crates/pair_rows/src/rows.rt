@@ -1,20 +1,19 @@
 //! The rows of pairs.
 
-ghost use Rattle.std.specs.Prelude.{◌≡◌, ◌++◌, ◌∷◌, [], true, map, IfOk, IfErr, OnOk};
-ghost use Rattle.base_core.specs.declared.refusal.Refusal.TheVariants.{Memory};
+ghost use Rattle.std.specs.Prelude.{◌≡◌, ◌++◌, ◌∷◌, [], map, IfOk, OnOk};
 ghost use Rattle.schema_core.specs.Tables.{given_value};
 ghost use Rattle.object_arena.specs.Fit.{IsFit};
 ghost use Rattle.object_writes.specs.Ready.{IsReady};
 ghost use Rattle.pair_rows.specs.Pairs as spec;
 
 use crate::pairs::{Pair, lost_pairs, made_pairs};
-use base_core::{ListOf, Name, Refusal, RowName, Value};
+use base_core::{ListOf, Name, RowName, Value};
 use class_mapping::Mapping;
 use object_arena::Arena;
 use object_rows::{Prepared, RowNames};
 use object_writes::{Projection, columns_at};
 use schema_core::{ColumnSpec, GoneRow, NewRow, RowCell};
-use std::alloc::Global;
+use std::alloc::{AllocError, Global};
 
 /// The name of a pair's row, which has the object of the first foreign key.
 fn pair_name(pair: Pair) -> RowName
@@ -37,10 +36,13 @@ fn given_value(cell: RowCell) -> Value
 }
 
 /// What a column of a pair's row is given by one of both objects, if it is.
-fn end_of_pair(projection: &Projection, pair: Pair, name: &Name) -> Result<Option<RowCell>, Refusal>
-    ensures cell { IfOk result (λ cell. cell ≡ spec.end_of_pair projection.now.mapping.now
+fn end_of_pair(
+    projection: &Projection,
+    pair: Pair,
+    name: &Name,
+) -> Result<Option<RowCell>, AllocError>
+    ensures { IfOk result (λ cell. cell ≡ spec.end_of_pair projection.now.mapping.now
         projection.now.arena.now projection.now.names.now pair name.now) }
-    ensures cause { IfErr result (λ e. e ≡ Memory) }
 {
     match projection.foreign_cell(pair.0, 0, name, Some(pair.1.0))? {
         Some(cell) => Ok(Some(cell)),
@@ -49,20 +51,22 @@ fn end_of_pair(projection: &Projection, pair: Pair, name: &Name) -> Result<Optio
 }
 
 /// What a column of a pair's row holds.
-fn pair_cell(projection: &Projection, pair: Pair, column: &ColumnSpec) -> Result<RowCell, Refusal>
-    ensures cell { IfOk result (λ cell. cell ≡ spec.pair_cell projection.now.mapping.now
+fn pair_cell(
+    projection: &Projection,
+    pair: Pair,
+    column: &ColumnSpec,
+) -> Result<RowCell, AllocError>
+    ensures { IfOk result (λ cell. cell ≡ spec.pair_cell projection.now.mapping.now
         projection.now.arena.now projection.now.names.now pair column.now) }
-    ensures cause { IfErr result (λ e. e ≡ Memory) }
 {
     let given = end_of_pair(projection, pair, &column.name)?;
     Ok(given.unwrap_or(RowCell::Given(Value::Null)))
 }
 
 /// The row that a pair makes.
-fn made_row(projection: &Projection, alloc: Global, pair: Pair) -> Result<NewRow, Refusal>
-    ensures row { IfOk result (λ row. row ≡ spec.made_row projection.now.mapping.now
+fn made_row(projection: &Projection, alloc: Global, pair: Pair) -> Result<NewRow, AllocError>
+    ensures { IfOk result (λ row. row ≡ spec.made_row projection.now.mapping.now
         projection.now.arena.now projection.now.names.now pair) }
-    ensures cause { IfErr result (λ e. e ≡ Memory) }
 {
     let mut cells = ListOf::new(alloc);
     for column in columns_at(projection.mapping, pair.0) {
@@ -75,11 +79,10 @@ fn made_row(projection: &Projection, alloc: Global, pair: Pair) -> Result<NewRow
 }
 
 /// The row that a pair takes away.
-fn lost_row(projection: &Projection, alloc: Global, pair: Pair) -> Result<GoneRow, Refusal>
+fn lost_row(projection: &Projection, alloc: Global, pair: Pair) -> Result<GoneRow, AllocError>
     requires { projection.now.names.now ≡ [] }
-    ensures row { IfOk result (λ row. row ≡ spec.lost_row projection.now.mapping.now
+    ensures { IfOk result (λ row. row ≡ spec.lost_row projection.now.mapping.now
         projection.now.arena.now pair) }
-    ensures cause { IfErr result (λ e. e ≡ Memory) }
 {
     let mut base = ListOf::new(alloc);
     for column in columns_at(projection.mapping, pair.0) {
@@ -97,10 +100,9 @@ fn push_made(
     projection: &Projection,
     alloc: Global,
     pairs: &[Pair],
-) -> Result<(), Refusal>
-    ensures rows { OnOk result (out.new ≡ out.old ++ map (spec.made_row
+) -> Result<(), AllocError>
+    ensures { OnOk result (out.new ≡ out.old ++ map (spec.made_row
         projection.now.mapping.now projection.now.arena.now projection.now.names.now) pairs.now) }
-    ensures cause { IfErr result (λ e. e ≡ Memory) }
 {
     for pair in pairs {
         out.push(made_row(projection, alloc, *pair)?)?;
@@ -114,11 +116,10 @@ fn push_lost(
     projection: &Projection,
     alloc: Global,
     pairs: &[Pair],
-) -> Result<(), Refusal>
+) -> Result<(), AllocError>
     requires { projection.now.names.now ≡ [] }
-    ensures rows { OnOk result (out.new ≡ out.old ++ map (spec.lost_row
+    ensures { OnOk result (out.new ≡ out.old ++ map (spec.lost_row
         projection.now.mapping.now projection.now.arena.now) pairs.now) }
-    ensures cause { IfErr result (λ e. e ≡ Memory) }
 {
     for pair in pairs {
         out.push(lost_row(projection, alloc, *pair)?)?;
@@ -128,17 +129,15 @@ fn push_lost(
 
 #[tactic(auto, unfolding(crate::specs::Pairs::made_rows))]
 /// The row of each pair of a many-to-many relationship that is made goes behind others, by table and objects. A pair is made
-/// that was added at one side or both, where both objects are in the session and neither is to be deleted. The only refusal is
-/// `Memory`.
+/// that was added at one side or both, where both objects are in the session and neither is to be deleted.
 pub fn push_made_rows(
     out: &mut ListOf<NewRow>,
     projection: &Projection,
     alloc: Global,
-) -> Result<(), Refusal>
+) -> Result<(), AllocError>
     requires { IsReady projection.now }
-    ensures rows { OnOk result (out.new ≡ out.old ++ spec.made_rows projection.now.mapping.now
+    ensures { OnOk result (out.new ≡ out.old ++ spec.made_rows projection.now.mapping.now
         projection.now.arena.now projection.now.prepared.now) }
-    ensures cause { IfErr result (λ e. e ≡ Memory) }
 {
     let pairs = made_pairs(
         alloc,
@@ -151,20 +150,17 @@ pub fn push_made_rows(
 
 #[tactic(auto, unfolding(crate::specs::Pairs::lost_rows))]
 /// The row of each pair that is taken away goes behind others, by table and objects: of one that was removed, where both
-/// objects are in the session and have keys, and of one that stood, where an object is to be deleted. The only refusal is
-/// `Memory`.
+/// objects are in the session and have keys, and of one that stood, where an object is to be deleted.
 pub fn push_lost_rows(
     out: &mut ListOf<GoneRow>,
     alloc: Global,
     arena: &Arena,
     mapping: &Mapping,
     prepared: &Prepared,
-) -> Result<(), Refusal>
-    requires configured { mapping.now.configured ≡ true }
+) -> Result<(), AllocError>
     requires fit { IsFit mapping.now arena.now }
-    ensures rows { OnOk result (out.new ≡ out.old
+    ensures { OnOk result (out.new ≡ out.old
         ++ spec.lost_rows mapping.now arena.now prepared.now) }
-    ensures cause { IfErr result (λ e. e ≡ Memory) }
 {
     let pairs = lost_pairs(alloc, mapping, arena, prepared)?;
     let names = RowNames::none(alloc);

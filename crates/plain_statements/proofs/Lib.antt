@@ -1,4 +1,3 @@
 pub mod Bulks
 pub mod Conditions
-pub mod Rows
 pub mod Selects

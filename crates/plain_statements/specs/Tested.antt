@@ -1,20 +1,13 @@
 -- What is tested of a statement, as truth values. That they are the conditions on a plain statement is proved of the public functions.
-use Rattle.std.specs.Prelude.{ℕ, Bool, true, false, not, ◌&&◌, ◌||◌, ◌==◌, nat_eq, nat_le, nat_lt, List, [], ◌∷◌, ◌++◌, map, length, Option, Some, None, is_some, is_ok, Ok, Err}
+use Rattle.std.specs.Prelude.{ℕ, Bool, true, false, not, ◌&&◌, ◌||◌, ◌==◌, nat_lt, List, [], ◌∷◌, ◌++◌, map, length, Option, Some, None, is_some, is_ok, Ok, Err}
 use Rattle.std.specs.List.{list_all, list_any}
 use Rattle.std.specs.Cmp.Lexicographic.{pointwise}
 use Rattle.base_core.specs.declared.ids.TableId.{TableId}
 use Rattle.base_core.specs.declared.ids.ColumnNo.{ColumnNo}
-use Rattle.base_core.specs.declared.value.Value.{Value}
 use Rattle.base_core.specs.declared.value.Kind.{Kind}
 use Rattle.base_core.specs.declared.value.Kind.TheVariants.{Boolean}
 use Rattle.schema_core.specs.declared.table.ColumnSpec.{ColumnSpec}
-use Rattle.schema_core.specs.declared.table.TableSpec.{TableSpec}
-use Rattle.schema_core.specs.declared.statement.RowStmt.{RowStmt}
-use Rattle.schema_core.specs.declared.statement.RowStmt.TheVariants as row
-use Rattle.schema_core.specs.Apply.{wants_key}
-use Rattle.schema_core.specs.Catalog.{Catalog, key_columns, kind_of, same_kind, spec_of}
-use Rattle.schema_core.specs.Tables.{fits as fits_column, is_null}
-use Rattle.schema_core.specs.WellFormed.{are_cells, is_row, may_hold}
+use Rattle.schema_core.specs.Catalog.{Catalog, kind_of, same_kind}
 use Rattle.schema_core.specs.Declaration.{some_two}
 use Rattle.expr_scopes.specs.Scopes.{is_for, is_known}
 use Rattle.expr_types.specs.declared.expr.Expr.{Expr}
@@ -153,29 +146,3 @@ sparing_bulk schema (bulk.Insert table columns values) = not (some_two (λ other
 sparing_bulk schema (bulk.Update table cells filter) =
     not (some_two (λ other cell. other.0.0 == cell.0.0) cells) && list_all (λ cell. is_free_column schema table cell.0) cells
 sparing_bulk schema (bulk.Delete table filter) = true
-
--- ---- statements on rows
-
--- a key has one value for each key column, of its kind and not NULL
-abbrev pub key_fits : TableSpec → List Value → Bool
-key_fits spec key = pointwise (λ v column. fits_column column v) key (key_columns spec)
-
-abbrev pub is_open : ColumnSpec → Value → Bool
-is_open column v = column.key && is_null v
-
--- all rows give their keys or all leave them open, and there is one row where a generated key is all that it has
-abbrev pub rows_alike : TableSpec → List (List Value) → Bool
-rows_alike spec rows =
-    not (list_any (wants_key spec) rows) || (list_all (wants_key spec) rows && (not (length spec.columns == 1) || (length rows == 1)))
-
-abbrev pub new_rows : TableSpec → List (List Value) → Bool
-new_rows spec rows = nat_lt 0 (length rows) && nat_le (length rows) 1000 && list_all (is_row spec) rows && rows_alike spec rows
-
-abbrev pub is_cell_at : ℕ → ColumnSpec → (ColumnNo × Value) → Bool
-is_cell_at place column cell = nat_eq place cell.0.0 && not column.key && may_hold column cell.1
-
-abbrev pub well_formed : Catalog → RowStmt → Bool
-well_formed schema (row.Insert table rows) = is_known schema table && new_rows (spec_of schema table) rows
-well_formed schema (row.Update table key cells) =
-    is_known schema table && (key_fits (spec_of schema table) key && nat_lt 0 (length cells) && are_cells 0 (spec_of schema table).columns cells)
-well_formed schema (row.Delete table key) = is_known schema table && key_fits (spec_of schema table) key

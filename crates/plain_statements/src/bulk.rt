@@ -1,9 +1,8 @@
 //! Which bulk statements fit their tables, and which a keeper may be sent.
 
-ghost use Rattle.std.specs.Prelude.{◌≡◌, ◌==◌, ◌∷◌, [], ◌↔◌, IsTrue, is_some, IfOk, IfErr, None};
+ghost use Rattle.std.specs.Prelude.{◌≡◌, ◌==◌, ◌∷◌, [], ◌↔◌, IsTrue, is_some, IfOk, None};
 ghost use Rattle.std.specs.List.{list_all, list_any};
 ghost use Rattle.std.specs.Cmp.Lexicographic.{pointwise};
-ghost use Rattle.base_core.specs.declared.refusal.Refusal.TheVariants.{Memory};
 ghost use Rattle.schema_core.specs.Declaration.{some_two};
 ghost use Rattle.sql_semantics.specs.Kinds as kinds;
 ghost use Rattle.sql_semantics.specs.Plain as plain;
@@ -14,7 +13,7 @@ ghost use Rattle.plain_statements.specs.Tested as spec;
 
 use crate::select::is_filtered;
 use crate::standing::{Sources, stands_as};
-use base_core::{ColumnNo, Refusal, TableId, Value};
+use base_core::{ColumnNo, TableId, Value};
 use expr_scopes::{column_in, is_for, is_free_column, is_known, table_name};
 use expr_types::{Bulk, Expr};
 use expr_typing::has_aggregate;
@@ -241,26 +240,18 @@ fn is_sparing(schema: &Schema, bulk: &Bulk) -> bool
 /// Whether the parts of a bulk statement fit its table: an INSERT has one value for each of its columns, NULL or of the
 /// column's kind; what an UPDATE writes is well typed, in normal form, without an aggregate and of its column's kind; a
 /// condition on rows stands as in a select.
-///
-/// # Errors
-/// `Memory` alone.
 #[tactic(auto, using(crate::proofs::Bulks::fitting_decided))]
-pub fn is_fitting_bulk(alloc: Global, schema: &Schema, bulk: &Bulk) -> Result<bool, Refusal>
-    ensures fitting { IfOk result (λ fitting. IsTrue fitting ↔ IsFittingBulk schema.now bulk.now) }
-    ensures cause { IfErr result (λ e. e ≡ Memory) }
+pub fn is_fitting_bulk(alloc: Global, schema: &Schema, bulk: &Bulk) -> Result<bool, AllocError>
+    ensures { IfOk result (λ fitting. IsTrue fitting ↔ IsFittingBulk schema.now bulk.now) }
 {
     Ok(fitting_bulk(alloc, schema, bulk)?)
 }
 
 /// Whether a keeper may be sent the bulk statement: its parts fit its table, it names no column twice, and an UPDATE
 /// spares the primary key.
-///
-/// # Errors
-/// `Memory` alone.
 #[tactic(auto, using(crate::proofs::Bulks::plain_decided))]
-pub fn is_plain_bulk(alloc: Global, schema: &Schema, bulk: &Bulk) -> Result<bool, Refusal>
-    ensures plain { IfOk result (λ plain. IsTrue plain ↔ IsPlainBulk schema.now bulk.now) }
-    ensures cause { IfErr result (λ e. e ≡ Memory) }
+pub fn is_plain_bulk(alloc: Global, schema: &Schema, bulk: &Bulk) -> Result<bool, AllocError>
+    ensures { IfOk result (λ plain. IsTrue plain ↔ IsPlainBulk schema.now bulk.now) }
 {
     if !is_sparing(schema, bulk) {
         return Ok(false);

@@ -2,12 +2,10 @@
 #![tactic(auto)]
 
 mod bulk;
-mod row;
 mod select;
 mod standing;
 mod statement;
 
 pub use bulk::{is_fitting_bulk, is_plain_bulk};
-pub use row::is_well_formed;
 pub use select::{is_plain_select, is_settled_select};
 pub use statement::is_plain;

@@ -1,8 +1,7 @@
 //! Which selects are plain.
 
-ghost use Rattle.std.specs.Prelude.{◌≡◌, ◌∷◌, [], ◌↔◌, IsTrue, length, IfOk, IfErr};
+ghost use Rattle.std.specs.Prelude.{◌≡◌, ◌∷◌, [], ◌↔◌, IsTrue, length, IfOk};
 ghost use Rattle.std.specs.List.{list_all, list_any};
-ghost use Rattle.base_core.specs.declared.refusal.Refusal.TheVariants.{Memory};
 ghost use Rattle.expr_types.specs.Level as level;
 ghost use Rattle.sql_semantics.specs.Plain as plain;
 ghost use Rattle.sql_semantics.specs.Plain.{IsPlainSelect};
@@ -10,7 +9,7 @@ ghost use Rattle.expr_scopes.specs.Scopes as scopes;
 ghost use Rattle.plain_statements.specs.Tested as spec;
 
 use crate::standing::{Sources, is_filter, stands, stands_as};
-use base_core::{Kind, Refusal, TableId};
+use base_core::{Kind, TableId};
 use expr_scopes::{Grouping, are_distinct, is_known, settled};
 use expr_types::{Expr, Select};
 use expr_typing::has_aggregate;
@@ -267,13 +266,9 @@ fn plain_select(alloc: Global, schema: &Schema, select: &Select) -> Result<bool,
 /// declared and its sources have names of their own; each column is there, each join's condition names the sources up to
 /// its own, `where`, `on` and `group by` have no aggregate, and a grouped query has the columns of its sources in
 /// aggregates and in its group expressions alone. `limit` and `offset` are below 2^63.
-///
-/// # Errors
-/// `Memory` alone.
 #[tactic(auto, using(crate::proofs::Selects::select_decided))]
-pub fn is_plain_select(alloc: Global, schema: &Schema, select: &Select) -> Result<bool, Refusal>
-    ensures plain { IfOk result (λ plain. IsTrue plain ↔ IsPlainSelect schema.now select.now) }
-    ensures cause { IfErr result (λ e. e ≡ Memory) }
+pub fn is_plain_select(alloc: Global, schema: &Schema, select: &Select) -> Result<bool, AllocError>
+    ensures { IfOk result (λ plain. IsTrue plain ↔ IsPlainSelect schema.now select.now) }
 {
     Ok(plain_select(alloc, schema, select)?)
 }

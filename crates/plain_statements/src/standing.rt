@@ -64,14 +64,10 @@ fn is_normal(alloc: Global, e: &Expr) -> Result<bool, AllocError>
     ensures { IfOk result (λ normal. normal ≡ spec.is_normal e.now) }
 {
     let copy = e.copied_in(alloc)?;
-    match normal(alloc, copy) {
-        Ok(form) => {
-            let is = same(&form, e);
-            drop(form);
-            Ok(is)
-        }
-        Err(_) => Err(AllocError),
-    }
+    let form = normal(alloc, copy)?;
+    let is = same(&form, e);
+    drop(form);
+    Ok(is)
 }
 
 /// The kind of the expression, none where it has a mismatch.

@@ -8,7 +8,7 @@ use Rattle.schema_core.specs.declared.changes.Planned.TheVariants.{Insert}
 use Rattle.schema_core.specs.declared.changes.RowChanges.{RowChanges}
 use Rattle.schema_core.specs.declared.statement.RowStmt.{RowStmt}
 use Rattle.schema_core.specs.Catalog.{Catalog, IsTable}
-use Rattle.plan_statements.specs.Fitting.{fits_schema}
+use Rattle.schema_core.specs.WellFormedTest.{is_well_formed}
 use Rattle.flush_order.specs.Cells.{table_at}
 use Rattle.flush_plan.specs.Flushing.{Keys, key_of_new, statement_sent}
 
@@ -29,9 +29,9 @@ abbrev pub is_of_rows : Catalog → RowChanges → Planned → Bool
 is_of_rows schema changes (Insert table places) = nat_lt table.0 (length schema.tables) && list_all (is_place_of changes table) places
 is_of_rows schema changes planned = true
 
--- the statement is of new rows, and fits the schema once the keys that are known are put in
+-- the statement is of new rows, and well formed once the keys that are known are put in
 abbrev pub is_sendable : Catalog → RowChanges → Keys → Planned → Bool
-is_sendable schema changes keys planned = is_of_rows schema changes planned && fits_schema schema (statement_sent schema changes keys planned)
+is_sendable schema changes keys planned = is_of_rows schema changes planned && is_well_formed schema (statement_sent schema changes keys planned)
 
 abbrev pub statement_if : Bool → RowStmt → Option RowStmt
 statement_if true statement = Some statement

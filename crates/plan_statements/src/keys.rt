@@ -1,23 +1,21 @@
 //! The keys of new rows by place, and the values of cells by them.
 
-ghost use Rattle.std.specs.Prelude.{◌≡◌, ◌<◌, [], ◌∷◌, length, IfErr, IfOk, OnOk, slice_index_or};
+ghost use Rattle.std.specs.Prelude.{◌≡◌, ◌<◌, [], ◌∷◌, length, IfOk, OnOk, slice_index_or};
 ghost use Rattle.std.specs.List.{All};
 ghost use Rattle.std.specs.Option.{option_copied};
-ghost use Rattle.base_core.specs.declared.refusal.Refusal.TheVariants.{Memory};
 ghost use Rattle.base_core.specs.declared.value.Value.TheVariants.{Null};
 ghost use Rattle.schema_core.specs.Tables.{value_or_null};
 ghost use Rattle.flush_plan.specs.Flushing.{Keys, key_of_new, keys_then, value_of_cell, with_keys};
 ghost use Rattle.plan_statements.specs.Known.{AreKeysAt, IsWithin, keys_at};
 
-use base_core::{Copied, Key, KeyList, ListOf, Refusal, Value};
+use base_core::{Copied, Key, KeyList, ListOf, Value};
 use schema_core::{Planned, RowCell};
-use std::alloc::Global;
+use std::alloc::{AllocError, Global};
 
-/// The keys of so many new rows, of which none is known. The only refusal is `Memory`.
-pub fn no_keys(alloc: Global, count: usize) -> Result<ListOf<Key>, Refusal>
+/// The keys of so many new rows, of which none is known.
+pub fn no_keys(alloc: Global, count: usize) -> Result<ListOf<Key>, AllocError>
     ensures keys { IfOk result (λ known. AreKeysAt [] known) }
     ensures long { IfOk result (λ known. length known ≡ count) }
-    ensures cause { IfErr result (λ e. e ≡ Memory) }
 {
     let mut known = ListOf::new(alloc);
     for _place in 0..count {
@@ -26,13 +24,12 @@ pub fn no_keys(alloc: Global, count: usize) -> Result<ListOf<Key>, Refusal>
     Ok(known)
 }
 
-/// Puts the keys that new rows got at their places, in order, as many as both lists have. The only refusal is `Memory`.
-fn put_keys(known: &mut ListOf<Key>, places: &[u32], answered: &KeyList) -> Result<(), Refusal>
+/// Puts the keys that new rows got at their places, in order, as many as both lists have.
+fn put_keys(known: &mut ListOf<Key>, places: &[u32], answered: &KeyList) -> Result<(), AllocError>
     requires within { All (λ place. place < length known.old) places.now }
     ensures keys { OnOk result ((keys : Keys) → AreKeysAt keys known.old
         → AreKeysAt (with_keys keys places.now answered.now) known.new) }
     ensures long { length known.new ≡ length known.old }
-    ensures cause { IfErr result (λ e. e ≡ Memory) }
 {
     for (number, place) in places.iter().enumerate() {
         match answered.get(number) {
@@ -43,18 +40,16 @@ fn put_keys(known: &mut ListOf<Key>, places: &[u32], answered: &KeyList) -> Resu
     Ok(())
 }
 
-/// Puts the keys that the new rows of a statement got at their places; only an INSERT is of new rows. The only refusal is
-/// `Memory`.
+/// Puts the keys that the new rows of a statement got at their places; only an INSERT is of new rows.
 pub fn keep_keys(
     known: &mut ListOf<Key>,
     planned: &Planned,
     answered: &KeyList,
-) -> Result<(), Refusal>
+) -> Result<(), AllocError>
     requires within { IsWithin (length known.old) planned.now }
     ensures keys { OnOk result ((keys : Keys) → AreKeysAt keys known.old
         → AreKeysAt (keys_then keys planned.now answered.now) known.new) }
     ensures long { length known.new ≡ length known.old }
-    ensures cause { IfErr result (λ e. e ≡ Memory) }
 {
     match planned {
         Planned::Insert { places, .. } => { put_keys(known, places.as_slice(), answered) }
@@ -62,22 +57,20 @@ pub fn keep_keys(
     }
 }
 
-/// Puts the key that a new row got at its place. The only refusal is `Memory`.
-fn put_key(known: &mut ListOf<Key>, place: u32, key: &Key) -> Result<(), Refusal>
+/// Puts the key that a new row got at its place.
+fn put_key(known: &mut ListOf<Key>, place: u32, key: &Key) -> Result<(), AllocError>
     requires within { place < length known.old }
     ensures keys { OnOk result ((keys : Keys) → AreKeysAt keys known.old
         → AreKeysAt ((place, key.now) ∷ keys) known.new) }
     ensures long { length known.new ≡ length known.old }
-    ensures cause { IfErr result (λ e. e ≡ Memory) }
 {
     let _before = known.replace(place as usize, key.copied()?);
     Ok(())
 }
 
-/// What a cell holds by the keys that are known: NULL for a key that is not, or has no such part. The only refusal is `Memory`.
-pub(crate) fn value_of_cell(known: &ListOf<Key>, cell: &RowCell) -> Result<Value, Refusal>
-    ensures value { IfOk result (λ value. value ≡ value_of_cell (keys_at known.now) cell.now) }
-    ensures cause { IfErr result (λ e. e ≡ Memory) }
+/// What a cell holds by the keys that are known: NULL for a key that is not, or has no such part.
+pub(crate) fn value_of_cell(known: &ListOf<Key>, cell: &RowCell) -> Result<Value, AllocError>
+    ensures { IfOk result (λ value. value ≡ value_of_cell (keys_at known.now) cell.now) }
 {
     match cell {
         RowCell::Given(value) => Ok(value.copied()?),
@@ -86,10 +79,9 @@ pub(crate) fn value_of_cell(known: &ListOf<Key>, cell: &RowCell) -> Result<Value
 }
 
 /// A part of a new row's key, or NULL.
-fn part_of_key(known: &ListOf<Key>, place: u32, part: u32) -> Result<Value, Refusal>
-    ensures value { IfOk result (λ value. value
+fn part_of_key(known: &ListOf<Key>, place: u32, part: u32) -> Result<Value, AllocError>
+    ensures { IfOk result (λ value. value
         ≡ slice_index_or (key_of_new (keys_at known.now) place) part Null) }
-    ensures cause { IfErr result (λ e. e ≡ Memory) }
 {
     match known.get(place as usize) {
         Some(key) => value_or_null(key.get(part as usize)),
@@ -97,9 +89,8 @@ fn part_of_key(known: &ListOf<Key>, place: u32, part: u32) -> Result<Value, Refu
     }
 }
 
-fn value_or_null(value: Option<&Value>) -> Result<Value, Refusal>
-    ensures value { IfOk result (λ copy. copy ≡ value_or_null (option_copied value.entry)) }
-    ensures cause { IfErr result (λ e. e ≡ Memory) }
+fn value_or_null(value: Option<&Value>) -> Result<Value, AllocError>
+    ensures { IfOk result (λ copy. copy ≡ value_or_null (option_copied value.entry)) }
 {
     match value {
         Some(value) => Ok(value.copied()?),

@@ -1,14 +1,10 @@
-//! The statements of a plan with the keys of new rows put in, as these become known, and whether a statement on rows fits a schema,
-//! as a test.
+//! The statements of a plan with the keys of new rows put in, as these become known.
 #![tactic(auto)]
 
-mod cells;
-mod fitting;
 mod keys;
 mod stale;
 mod statements;
 
-pub use fitting::fits_schema;
 pub use keys::{keep_keys, no_keys};
 pub use stale::{Places, is_row_missing, stale_places};
 pub use statements::{fitting_statement, table_of};

@@ -1,9 +1,8 @@
 //! The statements of a plan with the keys of new rows put in.
 
-ghost use Rattle.std.specs.Prelude.{◌≡◌, ◌<◌, ◌++◌, length, map, IfErr, IfOk, IfSome, OnOk};
+ghost use Rattle.std.specs.Prelude.{◌≡◌, ◌<◌, ◌++◌, length, map, IfOk, IfSome, OnOk};
 ghost use Rattle.std.specs.List.{All, list_all};
 ghost use Rattle.std.specs.Option.{IsSome};
-ghost use Rattle.base_core.specs.declared.refusal.Refusal.TheVariants.{Memory};
 ghost use Rattle.base_core.specs.declared.value.Value.TheVariants.{Null};
 ghost use Rattle.schema_core.specs.declared.changes.RowCell.TheVariants.{Given};
 ghost use Rattle.schema_core.specs.Catalog.{IsTable};
@@ -12,12 +11,11 @@ ghost use Rattle.flush_order.specs.Cells.{cells_cleared, is_late, table_at};
 ghost use Rattle.flush_plan.specs.Flushing.{row_sent, statement_sent, table_of, value_of_cell};
 ghost use Rattle.plan_statements.specs.Known.{IsOfRows, IsPlaceOf, is_of_rows, is_place_of, is_sendable, keys_at, statement_if};
 
-use crate::fitting::fits_schema;
 use crate::keys::value_of_cell;
-use base_core::{ColumnNo, Copied, Key, ListOf, Refusal, RowList, RowValues, TableId, Value};
+use base_core::{ColumnNo, Copied, Key, ListOf, RowList, RowValues, TableId, Value};
 use flush_order::is_late;
-use schema_core::{ColumnSpec, Planned, RowCell, RowChanges, RowStmt, Schema};
-use std::alloc::Global;
+use schema_core::{ColumnSpec, Planned, RowCell, RowChanges, RowStmt, Schema, is_well_formed};
+use std::alloc::{AllocError, Global};
 
 /// The table of a statement of a plan.
 pub fn table_of(planned: &Planned) -> TableId
@@ -39,11 +37,10 @@ fn push_values(
     table: TableId,
     columns: &[ColumnSpec],
     cells: &[RowCell],
-) -> Result<(), Refusal>
+) -> Result<(), AllocError>
     requires { IsTable schema.now table }
-    ensures values { OnOk result (out.new ≡ out.old ++ map (value_of_cell (keys_at known.now))
+    ensures { OnOk result (out.new ≡ out.old ++ map (value_of_cell (keys_at known.now))
         (cells_cleared (is_late schema.now changes.now table) (Given Null) columns.now cells.now)) }
-    ensures cause { IfErr result (λ e. e ≡ Memory) }
 {
     if let (Some((column, columns)), Some((cell, cells))) = (
         columns.split_first(),
@@ -67,12 +64,11 @@ fn row_sent(
     changes: &RowChanges,
     known: &ListOf<Key>,
     place: u32,
-) -> Result<RowValues, Refusal>
+) -> Result<RowValues, AllocError>
     requires within { place < length changes.now.fresh }
     requires declared { IsTable schema.now (table_at changes.now place) }
-    ensures row { IfOk result
+    ensures { IfOk result
         (λ row. row ≡ row_sent schema.now changes.now (keys_at known.now) place) }
-    ensures cause { IfErr result (λ e. e ≡ Memory) }
 {
     let fresh = changes.fresh.at(place as usize);
     let table = fresh.name.table;
@@ -98,12 +94,11 @@ fn rows_sent(
     known: &ListOf<Key>,
     table: TableId,
     places: &[u32],
-) -> Result<RowList, Refusal>
+) -> Result<RowList, AllocError>
     requires declared { IsTable schema.now table }
     requires places { All (IsPlaceOf changes.now table) places.now }
-    ensures rows { IfOk result
+    ensures { IfOk result
         (λ rows. rows ≡ map (row_sent schema.now changes.now (keys_at known.now)) places.now) }
-    ensures cause { IfErr result (λ e. e ≡ Memory) }
 {
     let mut rows = ListOf::new(alloc);
     for place in places {
@@ -113,10 +108,13 @@ fn rows_sent(
 }
 
 /// What cells hold by the keys that are known.
-fn values_sent(alloc: Global, known: &ListOf<Key>, cells: &[RowCell]) -> Result<RowValues, Refusal>
-    ensures values { IfOk result
+fn values_sent(
+    alloc: Global,
+    known: &ListOf<Key>,
+    cells: &[RowCell],
+) -> Result<RowValues, AllocError>
+    ensures { IfOk result
         (λ values. values ≡ map (value_of_cell (keys_at known.now)) cells.now) }
-    ensures cause { IfErr result (λ e. e ≡ Memory) }
 {
     let mut values = ListOf::new(alloc);
     for cell in cells {
@@ -130,10 +128,9 @@ fn cells_sent(
     alloc: Global,
     known: &ListOf<Key>,
     cells: &[(ColumnNo, RowCell)],
-) -> Result<ListOf<(ColumnNo, Value)>, Refusal>
-    ensures cells { IfOk result (λ sent. sent
+) -> Result<ListOf<(ColumnNo, Value)>, AllocError>
+    ensures { IfOk result (λ sent. sent
         ≡ map (λ cell. (cell.0, value_of_cell (keys_at known.now) cell.1)) cells.now) }
-    ensures cause { IfErr result (λ e. e ≡ Memory) }
 {
     let mut sent = ListOf::new(alloc);
     for cell in cells {
@@ -149,11 +146,10 @@ fn statement_sent(
     changes: &RowChanges,
     known: &ListOf<Key>,
     planned: &Planned,
-) -> Result<RowStmt, Refusal>
+) -> Result<RowStmt, AllocError>
     requires { IsOfRows schema.now changes.now planned.now }
-    ensures statement { IfOk result (λ statement. statement
+    ensures { IfOk result (λ statement. statement
         ≡ statement_sent schema.now changes.now (keys_at known.now) planned.now) }
-    ensures cause { IfErr result (λ e. e ≡ Memory) }
 {
     match planned {
         Planned::Insert { table, places } => Ok(RowStmt::Insert {
@@ -206,26 +202,25 @@ fn is_of_rows(schema: &Schema, changes: &RowChanges, planned: &Planned) -> bool
 }
 
 /// A statement of a plan with the keys of new rows put in, as far as they are known; none where it is an INSERT of other than
-/// new rows of its table, or does not fit the schema. The only refusal is `Memory`.
+/// new rows of its table, or is not well formed.
 pub fn fitting_statement(
     alloc: Global,
     schema: &Schema,
     changes: &RowChanges,
     known: &ListOf<Key>,
     planned: &Planned,
-) -> Result<Option<RowStmt>, Refusal>
+) -> Result<Option<RowStmt>, AllocError>
     ensures found { IfOk result (λ found. found
         ≡ statement_if (is_sendable schema.now changes.now (keys_at known.now) planned.now)
         (statement_sent schema.now changes.now (keys_at known.now) planned.now)) }
     ensures fits { IfOk result (λ found. IfSome found (IsWellFormed schema.now)) }
     ensures rows { IfOk result (λ found. IsSome found → IsOfRows schema.now changes.now planned.now) }
-    ensures cause { IfErr result (λ e. e ≡ Memory) }
 {
     if !is_of_rows(schema, changes, planned) {
         return Ok(None);
     }
     let statement = statement_sent(alloc, schema, changes, known, planned)?;
-    if !fits_schema(schema, &statement) {
+    if !is_well_formed(schema, &statement) {
         return Ok(None);
     }
     Ok(Some(statement))

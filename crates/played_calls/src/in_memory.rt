@@ -89,7 +89,7 @@ fn play_part(schema: &Schema, part: &str, page: &mut Page) {
         page: Page::new(page.alloc()),
     };
     let done = over_new(page.alloc(), failing.as_slice(), &mut part);
-    page.note_done(done);
+    page.note(done);
     page.put(part.page.text());
     page.lack_of(&part.page);
 }

@@ -3,8 +3,8 @@ use Rattle.std.specs.Prelude.{Bool, false, List, [], Option, None, Some, if◌th
 use Rattle.std.specs.Str.{bytes_eq}
 use Rattle.keeper_core.specs.declared.target.Target.{Target}
 use Rattle.keeper_core.specs.declared.target.Target.TheVariants as targets
-use Rattle.script_types.specs.declared.command.Dialect.{Dialect}
-use Rattle.script_types.specs.declared.command.Dialect.TheVariants as dialects
+use Rattle.base_core.specs.declared.dialect.Dialect.{Dialect}
+use Rattle.base_core.specs.declared.dialect.Dialect.TheVariants as dialects
 use Rattle.program_words.specs.declared.options.Options.{Options}
 use Rattle.program_words.specs.Reading.{AnOption, Given, Text, words_read}
 

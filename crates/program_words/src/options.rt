@@ -5,11 +5,10 @@ ghost use Rattle.clap.specs.Words.{first_value, found_of, kind_of};
 ghost use Rattle.program_words.specs.Asked as spec;
 
 use crate::command::words_command;
-use base_core::Name;
+use base_core::{Dialect, Name};
 use clap::error::ErrorKind;
 use clap::{ArgMatches, Error};
 use keeper_core::Target;
-use script_types::Dialect;
 use std::alloc::{AllocError, Global};
 
 /// What the words ask for: the dialect of printed texts, whether the statements of a line are written, and where tables are kept.

@@ -30,7 +30,6 @@ pub(crate) fn are_made(arena: &Arena, objects: &[ObjId]) -> bool
 }
 
 fn make(page: &mut Page, mapping: &Mapping, arena: &mut Arena, class: ClassId)
-    requires configured { mapping.now.configured ≡ true }
     requires fit { IsFit mapping.now arena.old }
     ensures { IsFit mapping.now arena.new }
 {
@@ -44,7 +43,6 @@ fn make(page: &mut Page, mapping: &Mapping, arena: &mut Arena, class: ClassId)
 }
 
 fn register(page: &mut Page, mapping: &Mapping, arena: &mut Arena, object: ObjId, words: &str)
-    requires configured { mapping.now.configured ≡ true }
     requires fit { IsFit mapping.now arena.old }
     requires object { IsObject arena.old object }
     ensures { IsFit mapping.now arena.new }
@@ -57,13 +55,13 @@ fn register(page: &mut Page, mapping: &Mapping, arena: &mut Arena, object: ObjId
 }
 
 /// A pending object, with its add number.
-fn put_pending(page: &mut Page, mapping: &Mapping, arena: &mut Arena, object: ObjId, added: u32)
+fn put_pending(mapping: &Mapping, arena: &mut Arena, object: ObjId, added: u32)
     requires fit { IsFit mapping.now arena.old }
     requires object { IsObject arena.old object }
     ensures { IsFit mapping.now arena.new }
 {
-    page.note_done(arena.put_marks(object, u64::from(added), false, false));
-    page.note_done(arena.put_state(object, State::Pending))
+    arena.put_marks(object, u64::from(added), false, false);
+    arena.put_state(object, State::Pending)
 }
 
 /// An object that was persistent is deleted or detached.
@@ -74,8 +72,8 @@ fn put_state(page: &mut Page, mapping: &Mapping, arena: &mut Arena, object: ObjI
 {
     let known = arena.object(object).identity.is_some();
     match letter {
-        b'g' if known => page.note_done(arena.put_state(object, State::Deleted)),
-        b'd' if known => page.note_done(arena.put_state(object, State::Detached)),
+        b'g' if known => arena.put_state(object, State::Deleted),
+        b'd' if known => arena.put_state(object, State::Detached),
         _ => page.lack(),
     }
 }
@@ -100,7 +98,6 @@ fn cell_of(page: &mut Page, words: &str) -> Cell {
 
 /// Puts a cell in, where it fits.
 fn put_cell(page: &mut Page, mapping: &Mapping, arena: &mut Arena, object: ObjId, words: &str)
-    requires configured { mapping.now.configured ≡ true }
     requires fit { IsFit mapping.now arena.old }
     requires object { IsObject arena.old object }
     ensures { IsFit mapping.now arena.new }
@@ -116,7 +113,7 @@ fn put_cell(page: &mut Page, mapping: &Mapping, arena: &mut Arena, object: ObjId
         drop(cell);
         return page.lack();
     }
-    page.note_done(arena.put_cell(object, attr, cell))
+    arena.put_cell(object, attr, cell)
 }
 
 /// Objects with commas between them; there may be none.
@@ -161,7 +158,6 @@ fn put_link(
     letter: u8,
     words: &str,
 )
-    requires configured { mapping.now.configured ≡ true }
     requires fit { IsFit mapping.now arena.old }
     requires object { IsObject arena.old object }
     ensures { IsFit mapping.now arena.new }
@@ -177,7 +173,7 @@ fn put_link(
         drop(link);
         return page.lack();
     }
-    page.note_done(arena.put_link(object, place, link))
+    arena.put_link(object, place, link)
 }
 
 /// What a word says of the preparation.
@@ -207,14 +203,13 @@ fn put(
     letter: u8,
     words: &str,
 )
-    requires configured { mapping.now.configured ≡ true }
     requires fit { IsFit mapping.now arena.old }
     requires object { IsObject arena.old object }
     ensures { IsFit mapping.now arena.new }
 {
     match letter {
         b'k' => register(page, mapping, arena, object, words),
-        b'p' => put_pending(page, mapping, arena, object, number(words)),
+        b'p' => put_pending(mapping, arena, object, number(words)),
         b'c' => put_cell(page, mapping, arena, object, words),
         b'e' | b'm' | b'l' => put_link(page, mapping, arena, object, letter, words),
         _ => put_state(page, mapping, arena, object, letter),
@@ -229,7 +224,6 @@ pub(crate) fn act(
     prepared: &mut Prepared,
     word: &str,
 )
-    requires configured { mapping.now.configured ≡ true }
     requires fit { IsFit mapping.now arena.old }
     ensures { IsFit mapping.now arena.new }
 {

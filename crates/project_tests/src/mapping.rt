@@ -2,7 +2,7 @@
 
 use crate::acts::known;
 use base_core::{ListOf, Name};
-use class_mapping::{ClassSpec, Mapping, RelationSpec};
+use class_mapping::{ClassSpec, Declarations, Mapping, RelationSpec};
 use class_types::Hooks;
 use notations::{Page, parted};
 
@@ -68,10 +68,10 @@ fn class(page: &mut Page, line: &str) -> ClassSpec {
 }
 
 /// Declares the table of a line, where a number is left for it.
-fn declare_table(page: &mut Page, mapping: &mut Mapping, line: &str) {
+fn declare_table(page: &mut Page, declarations: &mut Declarations, line: &str) {
     let spec = page.table(line);
-    if mapping.schema().count() < u32::MAX {
-        match mapping.declare_table(spec) {
+    if declarations.schema().count() < u32::MAX {
+        match declarations.declare_table(spec) {
             Ok(_) => {}
             Err(refusal) => page.note_done(Err(refusal)),
         }
@@ -79,24 +79,31 @@ fn declare_table(page: &mut Page, mapping: &mut Mapping, line: &str) {
 }
 
 /// Declares the class of a line, where a number is left for it.
-fn declare_class(page: &mut Page, mapping: &mut Mapping, hooks: &Hooks, line: &str) {
+fn declare_class(page: &mut Page, declarations: &mut Declarations, hooks: &Hooks, line: &str) {
     let spec = class(page, line);
-    if mapping.count() < u32::MAX {
-        match mapping.declare_class(spec, hooks) {
+    if declarations.count() < u32::MAX {
+        match declarations.declare_class(spec, hooks) {
             Ok(_) => {}
             Err(refusal) => page.note_done(Err(refusal)),
         }
     }
 }
 
-/// Declares the tables and classes of a line, and configures the mapping. The page notes what is refused.
-pub(crate) fn declare_all(page: &mut Page, mapping: &mut Mapping, hooks: &Hooks, line: &str) {
+/// The mapping of the tables and classes of a line. The page notes what is refused.
+pub(crate) fn declare_all(page: &mut Page, hooks: &Hooks, line: &str) -> Option<Mapping> {
+    let mut declarations = Declarations::new(page.alloc());
     let (tables, classes) = parted(line, '|');
     for table in tables.split(';') {
-        declare_table(page, mapping, table);
+        declare_table(page, &mut declarations, table);
     }
     for class in classes.split(';') {
-        declare_class(page, mapping, hooks, class);
+        declare_class(page, &mut declarations, hooks, class);
     }
-    page.note_done(mapping.configure())
+    match declarations.configure() {
+        Ok(mapping) => Some(mapping),
+        Err(refused) => {
+            page.note_done(Err(refused.refusal));
+            None
+        }
+    }
 }

@@ -1,6 +1,5 @@
 //! What a flush of small graphs changes.
 
-ghost use Rattle.std.specs.Prelude.{◌≡◌, true};
 ghost use Rattle.object_arena.specs.Fit.{IsFit};
 
 use crate::acts::{act, are_made};
@@ -17,7 +16,6 @@ use std::alloc::Global;
 
 /// Makes the graph and the preparation that the words of a line tell.
 fn make(page: &mut Page, mapping: &Mapping, arena: &mut Arena, prepared: &mut Prepared, line: &str)
-    requires configured { mapping.now.configured ≡ true }
     requires fit { IsFit mapping.now arena.old }
     ensures { IsFit mapping.now arena.new }
 {
@@ -28,7 +26,6 @@ fn make(page: &mut Page, mapping: &Mapping, arena: &mut Arena, prepared: &mut Pr
 
 /// Tells what a flush of a graph changes.
 fn tell_changes(mapping: &Mapping, arena: &Arena, prepared: &Prepared, page: &mut Page)
-    requires configured { mapping.now.configured ≡ true }
     requires fit { IsFit mapping.now arena.now }
 {
     if !are_made(arena, prepared.deleted.as_slice()) {
@@ -36,7 +33,7 @@ fn tell_changes(mapping: &Mapping, arena: &Arena, prepared: &Prepared, page: &mu
     }
     match project(page.alloc(), arena, mapping, prepared) {
         Ok(changes) => put_changes(page, mapping.schema(), &changes),
-        Err(refusal) => page.note_done(Err(refusal)),
+        Err(lack) => page.note_done(Err(lack.into())),
     }
 }
 
@@ -50,9 +47,7 @@ fn nothing_prepared(alloc: Global) -> Prepared {
 }
 
 /// Makes a graph from nothing, and tells what a flush of it changes.
-fn tell_graph(mapping: &Mapping, line: &str, page: &mut Page)
-    requires configured { mapping.now.configured ≡ true }
-{
+fn tell_graph(mapping: &Mapping, line: &str, page: &mut Page) {
     let mut arena = Arena::new(page.alloc());
     let mut prepared = nothing_prepared(page.alloc());
     make(page, mapping, &mut arena, &mut prepared, line);
@@ -60,9 +55,7 @@ fn tell_graph(mapping: &Mapping, line: &str, page: &mut Page)
 }
 
 /// The answers to the lines of a group.
-fn tell_graphs(mapping: &Mapping, lines: &str, page: &mut Page)
-    requires configured { mapping.now.configured ≡ true }
-{
+fn tell_graphs(mapping: &Mapping, lines: &str, page: &mut Page) {
     for line in lines.lines() {
         if line.starts_with('#') {
             page.put(line);
@@ -76,9 +69,7 @@ fn tell_graphs(mapping: &Mapping, lines: &str, page: &mut Page)
 /// The answers to a group, of which the first line has the declarations.
 pub(crate) fn tell_group(hooks: &Hooks, group: &str, page: &mut Page) {
     let (declarations, lines) = parted(group, '\n');
-    let mut mapping = Mapping::new(page.alloc());
-    declare_all(page, &mut mapping, hooks, declarations);
-    if mapping.is_configured() {
+    if let Some(mapping) = declare_all(page, hooks, declarations) {
         tell_graphs(&mapping, lines, page);
     }
 }

@@ -1,5 +1,5 @@
 -- The links that a change puts in fit their relationships.
-use Rattle.std.proofs.Common.{◌≡◌, ℕ, ◌<◌, ◌≤◌, Bool, true, false, List, length, get_or, Option, None, Some, is_some, Result, refl, sym, ap, ◌∙◌, subst, arith}
+use Rattle.std.proofs.Common.{◌≡◌, ℕ, ◌<◌, ◌≤◌, Bool, true, false, List, length, get_or, Option, None, Some, is_some, refl, sym, ap, ◌∙◌, subst, arith}
 use Rattle.std.specs.Prelude.{not, ◌&&◌, ◌||◌, nat_lt, slice_get, if◌then◌else◌}
 use Rattle.std.specs.Option.{option_map}
 use Rattle.std.proofs.lemmas.Bool.{and_from, eq-eqb, not-true}
@@ -10,8 +10,6 @@ use Rattle.base_core.specs.declared.ids.ClassId.{ClassId}
 use Rattle.base_core.specs.declared.ids.ObjId.{ObjId}
 use Rattle.base_core.specs.declared.ids.RelNo.{RelNo}
 use Rattle.base_core.specs.declared.refusal.RequestKind.TheVariants.{BadOwner, BadMember}
-use Rattle.base_core.specs.Answers.{Takes}
-use Rattle.base_core.specs.declared.refusal.Refusal.{Refusal}
 use Rattle.base_core.specs.declared.refusal.Refusal.TheVariants.{InvalidRequestError}
 use Rattle.class_types.specs.declared.mapped.Relation.{Relation}
 use Rattle.class_sides.specs.Pairs.{differ}
@@ -27,7 +25,7 @@ use Rattle.object_arena.proofs.ClassLemmas.{classes_long}
 use Rattle.object_arena.proofs.FitLemmas.{fit_links, fit_root}
 use Rattle.relations.specs.Fits.{ChangeFits, IsEndOf, IsManyAt, IsOneAt, PutFits}
 use Rattle.relations.specs.Keys.{IsEnd}
-use Rattle.relations.specs.Mirror.{end_fault, has_orphans, is_gone, is_of, join_change, joined_to, put_with_member, put_to_end, leads_elsewhere, put_without_member, left_behind, link_at, loaded_to, put_as_loaded, orphan_by, put_of, refused_or, remove_change, set_change}
+use Rattle.relations.specs.Mirror.{end_fault, has_orphans, is_gone, is_of, join_change, joined_to, put_with_member, put_to_end, leads_elsewhere, put_without_member, left_behind, link_at, loaded_to, put_as_loaded, orphan_by, put_of, remove_change, set_change}
 use Rattle.relations.specs.Parents.{IsMade, is_known_as}
 use Rattle.relations.specs.Places.{IsPutIn}
 use Rattle.object_parts.specs.Sides.{joined_by, left_by}
@@ -231,11 +229,6 @@ end_of_none false false false h = absurd cc
 pub end_taken : (graph : Graph) (mapped : Mapped) (owner : ObjId) (target : ClassId) (end : Option ObjId) → end_fault graph mapped owner target end ≡ None → IsEndOf graph mapped target end
 end_taken graph mapped owner target None h = tt
 end_taken graph mapped owner target (Some end) h = end_of_none (is_gone (object_at graph owner).state) (is_gone (object_at graph end).state) (is_of graph mapped target end) h
-
--- the step of a call whose ends are not refused
-pub through_end : (graph : Graph) (mapped : Mapped) (owner : ObjId) (end : Option ObjId) (relation found : Relation) (next : Relation → Result (Unit {0} × Graph) Refusal) (result : Result (Unit {0}) Refusal) (new : Graph) → relation ≡ found → end_fault graph mapped owner found.target end ≡ None
-    → Takes (λ _. tt) (next found) graph result new → Takes (λ _. tt) (refused_or (end_fault graph mapped owner relation.target end) (next relation)) graph result new
-through_end graph mapped owner end relation found next result new same none step = rw same (rw none step)
 
 -- the relationship of a place is the one that is found there
 pub relation_found : (mapped : Mapped) (class : ClassId) (place : RelNo) (relation : Relation) → IsAt mapped class place.0 relation → relation_of mapped class place ≡ relation

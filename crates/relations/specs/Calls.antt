@@ -1,4 +1,4 @@
--- What is asked of one link of an object, and which links change then.
+-- What is asked of one link of an object, which links change then, and the graph with them.
 use Rattle.std.specs.Prelude.{Bool, true, false, not, ◌||◌, Option, None, Some, is_some, Result, Ok, Err, if◌then◌else◌}
 use Rattle.base_core.specs.declared.ids.ObjId.{ObjId}
 use Rattle.base_core.specs.declared.ids.RelNo.{RelNo}
@@ -14,7 +14,7 @@ use Rattle.relations.specs.declared.calls.LinkCall.TheVariants.{Set, Append, Rem
 use Rattle.relations.specs.declared.change.Change.{Change}
 use Rattle.relations.specs.declared.parents.OldParent.{OldParent}
 use Rattle.relations.specs.Keys.{changes_key}
-use Rattle.relations.specs.Mirror.{end_fault, has_member, is_unloaded, join_change, link_at, remove_change, set_change}
+use Rattle.relations.specs.Mirror.{end_fault, has_member, is_unloaded, join_change, link_at, remove_change, set_change, with_change}
 use Rattle.relations.specs.Parents.{old_parent}
 
 -- the object that is named to be put in or taken out, if there is one
@@ -79,3 +79,32 @@ unfoldable pub link_change : Graph → Mapped → ObjId → RelNo → LinkCall �
 link_change graph mapped owner place call =
     let relation = relation_of mapped (object_at graph owner).class place in
     unless_fault (end_fault graph mapped owner relation.target (end_of call)) (links_by graph mapped owner place relation call)
+
+-- ---- the links are put in
+
+-- the object that a change of its parent may make an orphan: the owner of a many-to-one link, else the member
+abbrev pub child_of : ObjId → LinkCall → ObjId
+child_of owner (Set parent) = owner
+child_of owner (Append member) = member
+child_of owner (Remove member) = member
+
+-- the graph with the links that change, or why none does
+abbrev pub changed_by : Graph → ObjId → Result Change Refusal → Result (Unit {0} × Graph) Refusal
+changed_by graph child (Err fault) = Err fault
+changed_by graph child (Ok change) = Ok (tt, with_change graph child change)
+
+-- the answer to a call that changes a link with its other side
+abbrev pub link_changed : Graph → Mapped → ObjId → RelNo → LinkCall → Result (Unit {0} × Graph) Refusal
+link_changed graph mapped owner place call = changed_by graph (child_of owner call) (link_change graph mapped owner place call)
+
+-- the answer to the setting of a many-to-one link
+abbrev pub set_one : Graph → Mapped → ObjId → RelNo → Option ObjId → Result (Unit {0} × Graph) Refusal
+set_one graph mapped child place parent = link_changed graph mapped child place (Set parent)
+
+-- the answer to an append to a collection
+abbrev pub append : Graph → Mapped → ObjId → RelNo → ObjId → Result (Unit {0} × Graph) Refusal
+append graph mapped owner place member = link_changed graph mapped owner place (Append member)
+
+-- the answer to a removal from a collection
+abbrev pub remove : Graph → Mapped → ObjId → RelNo → ObjId → Result (Unit {0} × Graph) Refusal
+remove graph mapped owner place member = link_changed graph mapped owner place (Remove member)

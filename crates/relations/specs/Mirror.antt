@@ -1,10 +1,10 @@
--- The graph after the change of one link: what each link that changes is afterwards, on both sides at once.
-use Rattle.std.specs.Prelude.{Bool, true, false, not, ◌||◌, List, [], slice_get, ◌==◌, Option, None, Some, is_none, is_some, Result, Ok, Err, if◌then◌else◌}
+-- What the change of one link makes of the links on both sides, and the graph with them.
+use Rattle.std.specs.Prelude.{Bool, true, false, not, ◌||◌, List, [], slice_get, ◌==◌, Option, None, Some, is_none, is_some, if◌then◌else◌}
 use Rattle.std.specs.Option.{option_map}
 use Rattle.base_core.specs.declared.ids.ClassId.{ClassId}
 use Rattle.base_core.specs.declared.ids.ObjId.{ObjId}
 use Rattle.base_core.specs.declared.ids.RelNo.{RelNo}
-use Rattle.base_core.specs.declared.refusal.RequestKind.TheVariants.{BadOwner, BadMember, NotAMember, KeyChange}
+use Rattle.base_core.specs.declared.refusal.RequestKind.TheVariants.{BadOwner, BadMember}
 use Rattle.base_core.specs.declared.refusal.Refusal.{Refusal}
 use Rattle.base_core.specs.declared.refusal.Refusal.TheVariants.{InvalidRequestError}
 use Rattle.class_types.specs.declared.mapped.Relation.{Relation}
@@ -14,10 +14,8 @@ use Rattle.object_arena.specs.declared.object.State.{State}
 use Rattle.object_arena.specs.declared.object.State.TheVariants.{Deleted, Detached}
 use Rattle.object_arena.specs.declared.object.Link.{Link}
 use Rattle.object_arena.specs.declared.object.Link.TheVariants.{Unset, Unloaded, One, Many}
-use Rattle.object_arena.specs.Fit.{relation_of}
 use Rattle.object_arena.specs.Graph.{Graph, is_among, object_at, with_link, with_marks}
-use Rattle.relations.specs.Keys.{changes_key}
-use Rattle.relations.specs.Parents.{is_known_as, old_parent}
+use Rattle.relations.specs.Parents.{is_known_as}
 use Rattle.object_parts.specs.Sides.{joined_by, left_by}
 use Rattle.relations.specs.declared.change.Change.{Change}
 use Rattle.relations.specs.declared.change.LinkPut.{LinkPut}
@@ -94,10 +92,6 @@ end_fault graph mapped owner target end =
     else if is_bad_end graph mapped target end then Some (InvalidRequestError BadMember)
     else None
 
-abbrev pub refused_or : Option Refusal → Result (Unit {0} × Graph) Refusal → Result (Unit {0} × Graph) Refusal
-refused_or (Some fault) otherwise = Err fault
-refused_or None otherwise = otherwise
-
 -- ---- the change of a many-to-one link
 
 -- the collection that the child leaves: that of the old parent, where this is known and is of the target
@@ -131,21 +125,6 @@ set_change graph mapped child place relation old parent =
       orphan = orphan_by (has_orphans (partner_of mapped relation)) parent;
     }
 
-abbrev pub set_from : Graph → Mapped → ObjId → RelNo → Relation → Option ObjId → OldParent → Result (Unit {0} × Graph) Refusal
-set_from graph mapped child place relation parent old =
-    if changes_key graph mapped child relation old parent then Err (InvalidRequestError KeyChange)
-    else Ok (tt, with_change graph child (set_change graph mapped child place relation old parent))
-
--- a link is set to a parent or to none, where both sides can take part
-unfoldable pub set_to : Graph → Mapped → ObjId → RelNo → Relation → Option ObjId → Result (Unit {0} × Graph) Refusal
-set_to graph mapped child place relation parent = set_from graph mapped child place relation parent (old_parent graph mapped child place relation)
-
--- the answer to the setting of a many-to-one link
-unfoldable pub set_one : Graph → Mapped → ObjId → RelNo → Option ObjId → Result (Unit {0} × Graph) Refusal
-set_one graph mapped child place parent =
-    let relation = relation_of mapped (object_at graph child).class place in
-    refused_or (end_fault graph mapped child relation.target parent) (set_to graph mapped child place relation parent)
-
 -- ---- changes of a collection
 
 abbrev pub is_unloaded : Option Link → Bool
@@ -169,27 +148,6 @@ join_change graph owner place relation member = record {
   orphan = None;
 }
 
-abbrev pub append_by : Graph → Mapped → ObjId → RelNo → ObjId → Option Relation → Result (Unit {0} × Graph) Refusal
-append_by graph mapped owner partner member None = Ok (tt, graph)
-append_by graph mapped owner partner member (Some link) = set_to graph mapped member partner link (Some owner)
-
--- of one-to-many, the member's link is set to the owner
-abbrev pub append_to : Graph → Mapped → ObjId → RelNo → Relation → ObjId → Result (Unit {0} × Graph) Refusal
-append_to graph mapped owner place relation member =
-    if is_some relation.far then Ok (tt, with_change graph owner (join_change graph owner place relation member))
-    else append_by graph mapped owner relation.partner member (partner_of mapped relation)
-
--- a member that is there already stays where it is
-abbrev pub append_new : Graph → Mapped → ObjId → RelNo → Relation → ObjId → Result (Unit {0} × Graph) Refusal
-append_new graph mapped owner place relation member =
-    if has_member graph owner place member then Ok (tt, graph) else append_to graph mapped owner place relation member
-
--- the answer to an append to a collection
-unfoldable pub append : Graph → Mapped → ObjId → RelNo → ObjId → Result (Unit {0} × Graph) Refusal
-append graph mapped owner place member =
-    let relation = relation_of mapped (object_at graph owner).class place in
-    refused_or (end_fault graph mapped owner relation.target (Some member)) (append_new graph mapped owner place relation member)
-
 -- the link is loaded and leads to another object
 abbrev pub leads_elsewhere : Option Link → ObjId → Bool
 leads_elsewhere (Some (One (Some end) changed)) owner = not (end.0 == owner.0)
@@ -206,15 +164,3 @@ remove_change graph owner place relation member =
       own = put_to_end graph member relation.partner None;
       orphan = orphan_by relation.cascade.delete_orphan None;
     }
-
--- a member that is there is taken out
-abbrev pub remove_member : Graph → ObjId → RelNo → Relation → ObjId → Result (Unit {0} × Graph) Refusal
-remove_member graph owner place relation member =
-    if has_member graph owner place member then Ok (tt, with_change graph member (remove_change graph owner place relation member))
-    else Err (InvalidRequestError NotAMember)
-
--- the answer to a removal from a collection
-unfoldable pub remove : Graph → Mapped → ObjId → RelNo → ObjId → Result (Unit {0} × Graph) Refusal
-remove graph mapped owner place member =
-    let relation = relation_of mapped (object_at graph owner).class place in
-    refused_or (end_fault graph mapped owner relation.target (Some member)) (remove_member graph owner place relation member)

@@ -1,19 +1,18 @@
 //! Links that a change puts in.
 
-ghost use Rattle.std.specs.Prelude.{◌≡◌, IfOk, IfErr};
-ghost use Rattle.base_core.specs.declared.refusal.Refusal.TheVariants.{Memory};
+ghost use Rattle.std.specs.Prelude.{◌≡◌, Some, IfOk};
 ghost use Rattle.class_mapping.specs.Mapped.{Mapped};
 ghost use Rattle.object_arena.specs.Every.{classes_of};
-ghost use Rattle.object_arena.specs.Fit.{IsFit};
+ghost use Rattle.object_arena.specs.Fit.{IsFit, Keeps, KeepsWith};
 ghost use Rattle.object_arena.specs.Graph.{IsObject};
 ghost use Rattle.relations.specs.Fits.{ChangeFits, PutFits};
 ghost use Rattle.relations.specs.Mirror as spec;
 ghost use Rattle.relations.specs.Places.{HasPlaces, IsPlaced, IsPutIn};
 
-use base_core::{ObjId, Refusal, RelNo};
+use base_core::{ObjId, RelNo};
 use object_arena::{Arena, Link};
 use object_parts::{joined, left};
-use std::alloc::Global;
+use std::alloc::{AllocError, Global};
 
 /// A link of an object as it is to be.
 #[derive(Drop)]
@@ -43,11 +42,10 @@ pub(crate) fn leaving(
     owner: ObjId,
     place: RelNo,
     member: ObjId,
-) -> Result<Option<LinkPut>, Refusal>
+) -> Result<Option<LinkPut>, AllocError>
     requires { IsObject arena.now owner }
     ensures put { IfOk result (λ put. put ≡ spec.put_without_member arena.now owner place member) }
     ensures placed { IfOk result (IsPutIn arena.now) }
-    ensures cause { IfErr result (λ e. e ≡ Memory) }
 {
     match arena.object(owner).links.get(place.0 as usize) {
         None => Ok(None),
@@ -65,11 +63,10 @@ pub(crate) fn joining(
     owner: ObjId,
     place: RelNo,
     member: ObjId,
-) -> Result<Option<LinkPut>, Refusal>
+) -> Result<Option<LinkPut>, AllocError>
     requires { IsObject arena.now owner }
     ensures put { IfOk result (λ put. put ≡ spec.put_with_member arena.now owner place member) }
     ensures placed { IfOk result (IsPutIn arena.now) }
-    ensures cause { IfErr result (λ e. e ≡ Memory) }
 {
     match arena.object(owner).links.get(place.0 as usize) {
         None => Ok(None),
@@ -139,7 +136,7 @@ fn put_of(object: ObjId, relation: RelNo, link: Link) -> Option<LinkPut>
     })
 }
 
-/// Puts the links in. Takes no memory.
+/// Puts the links in, one after another. Takes no memory.
 #[tactic(auto, unfolding(crate::specs::Mirror::with_change))]
 pub(crate) fn apply(arena: &mut Arena, child: ObjId, change: Change)
     requires child { IsObject arena.old child }
@@ -155,7 +152,7 @@ pub(crate) fn apply(arena: &mut Arena, child: ObjId, change: Change)
         own,
         orphan,
     } = change;
-    put_orphan(arena, child, orphan);
+    orphan_in(arena, child, orphan);
     put_in(arena, left);
     put_in(arena, joined);
     put_in(arena, own);
@@ -171,13 +168,21 @@ fn put_in(arena: &mut Arena, put: Option<LinkPut>)
 {
     match put {
         None => {}
-        Some(put) => {
-            let _put = arena.put_link(put.object, put.relation, put.link);
-        }
+        Some(put) => put_link(arena, put),
     }
 }
 
-fn put_orphan(arena: &mut Arena, object: ObjId, orphan: Option<bool>)
+/// A link is put in the place of another. Takes no memory.
+pub fn put_link(arena: &mut Arena, put: LinkPut)
+    requires { IsPutIn arena.old (Some put) }
+    ensures put { arena.new ≡ spec.with_put arena.old (Some put) }
+    ensures keeps { KeepsWith (λ mapped. PutFits mapped arena.old (Some put)) arena.old arena.new }
+    ensures places { HasPlaces arena.old arena.new }
+{
+    arena.put_link(put.object, put.relation, put.link);
+}
+
+fn orphan_in(arena: &mut Arena, object: ObjId, orphan: Option<bool>)
     requires { IsObject arena.old object }
     ensures put { arena.new ≡ spec.with_orphan arena.old object orphan }
     ensures keeps { (mapped : Mapped) → IsFit mapped arena.old → IsFit mapped arena.new }
@@ -186,11 +191,18 @@ fn put_orphan(arena: &mut Arena, object: ObjId, orphan: Option<bool>)
 {
     match orphan {
         None => {}
-        Some(orphan) => {
-            let record = arena.object(object);
-            let added = record.added;
-            let marked = record.marked;
-            let _put = arena.put_marks(object, added, marked, orphan);
-        }
+        Some(orphan) => put_orphan(arena, object, orphan),
     }
+}
+
+/// An object is an orphan then, or is none. Takes no memory.
+pub fn put_orphan(arena: &mut Arena, object: ObjId, orphan: bool)
+    requires { IsObject arena.old object }
+    ensures put { arena.new ≡ spec.with_orphan arena.old object (Some orphan) }
+    ensures keeps { Keeps arena.old arena.new }
+    ensures places { HasPlaces arena.old arena.new }
+{
+    let record = arena.object(object);
+    let (added, marked) = (record.added, record.marked);
+    arena.put_marks(object, added, marked, orphan);
 }

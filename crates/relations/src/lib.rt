@@ -7,7 +7,6 @@ mod keys;
 mod mirror;
 mod parents;
 
-pub use calls::{LinkCall, is_unloaded, link_change};
-pub use change::{Change, LinkPut};
-pub use mirror::{append, remove, set_one};
+pub use calls::{LinkCall, append, is_unloaded, link_change, remove, set_one};
+pub use change::{Change, LinkPut, put_link, put_orphan};
 pub use parents::{OldParent, old_parent};

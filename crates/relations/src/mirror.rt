@@ -1,149 +1,22 @@
-//! Changes of one link, with both sides at once.
+//! What the change of one link makes of the links on both sides.
 
-ghost use Rattle.std.specs.Prelude.{◌≡◌, ◌<◌, true, false, length, slice_get, IfOk, IfErr, Some, None, Result, Ok, Err};
+ghost use Rattle.std.specs.Prelude.{◌≡◌, true, slice_get, IfOk};
 ghost use Rattle.std.specs.Option.{option_copied};
-ghost use Rattle.base_core.specs.Answers.{Takes};
-ghost use Rattle.base_core.specs.declared.refusal.Refusal.TheVariants.{Memory};
-ghost use Rattle.class_mapping.specs.Mapped.{IsClass, partner_of, relations_of};
-ghost use Rattle.class_mapping.specs.Paired.{HasPairs};
-ghost use Rattle.object_arena.specs.Every.{classes_of};
-ghost use Rattle.object_arena.specs.Fit.{IsFit, relation_of};
+ghost use Rattle.class_mapping.specs.Mapped.{IsClass, partner_of};
 ghost use Rattle.object_arena.specs.Graph.{IsObject, object_at};
-ghost use Rattle.relations.specs.Fits.{IsEndOf, IsManyAt, IsOneAt};
 ghost use Rattle.relations.specs.Keys.{IsEnd};
 ghost use Rattle.relations.specs.Mirror as spec;
 ghost use Rattle.relations.specs.Parents.{IsMade};
 ghost use Rattle.relations.specs.Places.{IsPlaced, IsPutIn};
 
 use crate::OldParent;
-use crate::change::{Change, LinkPut, apply, joining, leading, leaving, loading};
-use crate::keys::changes_key;
-use crate::parents::parent_before;
+use crate::change::{Change, LinkPut, joining, leading, leaving, loading};
 use base_core::{ClassId, ObjId, Refusal, RelNo, RequestKind};
 use class_layouts::has_class;
 use class_mapping::{Mapping, Relation};
 use object_arena::{Arena, Link, State};
 use object_parts::is_among;
-use std::alloc::Global;
-
-/// Sets a many-to-one link of a child to a parent, or to none.
-///
-/// Where the link's old parent is known to be the one that it is set to, the link is loaded and nothing else happens. Else
-/// the child leaves the collection of its old parent, where that is known and of the link's target, and joins the end of
-/// the new one's; the link leads to the new one then, and is changed. Where the collections of its parents have
-/// delete-orphan, the child is an orphan if it has no parent then, and is none if it has one.
-///
-/// # Errors
-/// `InvalidRequestError` with the first that holds: `BadOwner` (the child is deleted or detached), `BadMember` (the parent
-/// is, or is of no class at or under the link's target), `KeyChange` (the child is persistent, the foreign key has columns
-/// of its primary key, and the parent is no known old parent and has no identity that gives these columns the values that
-/// they have). A refusal changes nothing.
-#[tactic(auto, unfolding(crate::specs::Mirror::set_one))]
-pub fn set_one(
-    alloc: Global,
-    arena: &mut Arena,
-    mapping: &Mapping,
-    child: ObjId,
-    relation: RelNo,
-    parent: Option<ObjId>,
-) -> Result<(), Refusal>
-    requires configured { mapping.now.configured ≡ true }
-    requires fit { IsFit mapping.now arena.old }
-    requires child { IsObject arena.old child }
-    requires relation { relation.0
-        < length (relations_of mapping.now (object_at arena.old child).class) }
-    requires one { (relation_of mapping.now (object_at arena.old child).class relation).many
-        ≡ false }
-    requires parent { IsEnd arena.old parent }
-    ensures step { Takes (λ _. tt)
-        (spec.set_one arena.old mapping.now child relation parent) arena.old result arena.new }
-    ensures fits { IsFit mapping.now arena.new }
-    ensures classes { classes_of arena.new ≡ classes_of arena.old }
-{
-    let found = &mapping.relations(arena.object(child).class)[relation.0 as usize];
-    match end_fault(arena, mapping, child, found.target, parent) {
-        Some(fault) => Err(fault),
-        None => set_to(alloc, arena, mapping, child, relation, found, parent),
-    }
-}
-
-/// Appends a member to a collection that is not unloaded.
-///
-/// A member that is there already stays where it is, and nothing changes. Of one-to-many the member's link is set to the
-/// owner, as [`set_one`] does; of many-to-many each joins the collection of the other.
-///
-/// # Errors
-/// `InvalidRequestError` with the first that holds: `BadOwner` (the owner is deleted or detached), `BadMember` (the member
-/// is, or is of no class at or under the collection's target), `KeyChange` as [`set_one`] has it for the member's link. A
-/// refusal changes nothing.
-#[tactic(auto, unfolding(crate::specs::Mirror::append))]
-pub fn append(
-    alloc: Global,
-    arena: &mut Arena,
-    mapping: &Mapping,
-    owner: ObjId,
-    relation: RelNo,
-    member: ObjId,
-) -> Result<(), Refusal>
-    requires configured { mapping.now.configured ≡ true }
-    requires fit { IsFit mapping.now arena.old }
-    requires owner { IsObject arena.old owner }
-    requires relation { relation.0
-        < length (relations_of mapping.now (object_at arena.old owner).class) }
-    requires many { (relation_of mapping.now (object_at arena.old owner).class relation).many
-        ≡ true }
-    requires member { IsObject arena.old member }
-    requires loaded { spec.is_unloaded (spec.link_at arena.old owner relation) ≡ false }
-    ensures step { Takes (λ _. tt)
-        (spec.append arena.old mapping.now owner relation member) arena.old result arena.new }
-    ensures fits { IsFit mapping.now arena.new }
-    ensures classes { classes_of arena.new ≡ classes_of arena.old }
-{
-    let found = &mapping.relations(arena.object(owner).class)[relation.0 as usize];
-    match end_fault(arena, mapping, owner, found.target, Some(member)) {
-        Some(fault) => Err(fault),
-        None => append_new(alloc, arena, mapping, owner, relation, found, member),
-    }
-}
-
-/// Takes a member out of a collection that is not unloaded.
-///
-/// Of one-to-many the member's link leads to none then, unless it is loaded and leads to another object, and the member is
-/// an orphan where the collection has delete-orphan. Of many-to-many each leaves the collection of the other.
-///
-/// # Errors
-/// `InvalidRequestError` with the first that holds: `BadOwner` (the owner is deleted or detached), `BadMember` (the member
-/// is, or is of no class at or under the collection's target), `NotAMember` (the collection lacks the member). A refusal
-/// changes nothing.
-#[tactic(auto, unfolding(crate::specs::Mirror::remove))]
-pub fn remove(
-    alloc: Global,
-    arena: &mut Arena,
-    mapping: &Mapping,
-    owner: ObjId,
-    relation: RelNo,
-    member: ObjId,
-) -> Result<(), Refusal>
-    requires configured { mapping.now.configured ≡ true }
-    requires fit { IsFit mapping.now arena.old }
-    requires owner { IsObject arena.old owner }
-    requires relation { relation.0
-        < length (relations_of mapping.now (object_at arena.old owner).class) }
-    requires many { (relation_of mapping.now (object_at arena.old owner).class relation).many
-        ≡ true }
-    requires member { IsObject arena.old member }
-    requires loaded { spec.is_unloaded (spec.link_at arena.old owner relation) ≡ false }
-    ensures step { Takes (λ _. tt)
-        (spec.remove arena.old mapping.now owner relation member) arena.old result arena.new }
-    ensures fits { IsFit mapping.now arena.new }
-    ensures classes { classes_of arena.new ≡ classes_of arena.old }
-{
-    let found = &mapping.relations(arena.object(owner).class)[relation.0 as usize];
-    match end_fault(arena, mapping, owner, found.target, Some(member)) {
-        Some(fault) => Err(fault),
-        None => remove_member(alloc, arena, mapping, owner, relation, found, member),
-    }
-}
+use std::alloc::{AllocError, Global};
 
 /// Why an owner's link takes no part in a change, or leads to no such object.
 pub(crate) fn end_fault(
@@ -204,66 +77,6 @@ pub(crate) fn has_member(arena: &Arena, owner: ObjId, place: RelNo, member: ObjI
     }
 }
 
-/// Sets a link to a parent or to none, where both sides can take part.
-#[tactic(auto, unfolding(crate::specs::Mirror::set_to))]
-fn set_to(
-    alloc: Global,
-    arena: &mut Arena,
-    mapping: &Mapping,
-    child: ObjId,
-    place: RelNo,
-    relation: &Relation,
-    parent: Option<ObjId>,
-) -> Result<(), Refusal>
-    requires configured { mapping.now.configured ≡ true }
-    requires fit { IsFit mapping.now arena.old }
-    requires child { IsObject arena.old child }
-    requires parent { IsEnd arena.old parent }
-    ensures step { Takes (λ _. tt)
-        (spec.set_to arena.old mapping.now child place relation.now parent) arena.old result
-        arena.new }
-    ensures fits { HasPairs mapping.now
-        → IsOneAt arena.old mapping.now child place relation.now
-        → IsEndOf arena.old mapping.now relation.now.target parent
-        → IsFit mapping.now arena.old → IsFit mapping.now arena.new }
-    ensures classes { classes_of arena.new ≡ classes_of arena.old }
-{
-    let old = parent_before(alloc, arena, mapping, child, place, relation)?;
-    set_from(alloc, arena, mapping, child, place, relation, parent, old)
-}
-
-/// Sets a link whose old parent is found.
-fn set_from(
-    alloc: Global,
-    arena: &mut Arena,
-    mapping: &Mapping,
-    child: ObjId,
-    place: RelNo,
-    relation: &Relation,
-    parent: Option<ObjId>,
-    old: OldParent,
-) -> Result<(), Refusal>
-    requires configured { mapping.now.configured ≡ true }
-    requires child { IsObject arena.old child }
-    requires parent { IsEnd arena.old parent }
-    requires old { IsMade arena.old old }
-    ensures step { Takes (λ _. tt)
-        (spec.set_from arena.old mapping.now child place relation.now parent old) arena.old
-        result arena.new }
-    ensures fits { HasPairs mapping.now
-        → IsOneAt arena.old mapping.now child place relation.now
-        → IsEndOf arena.old mapping.now relation.now.target parent
-        → IsFit mapping.now arena.old → IsFit mapping.now arena.new }
-    ensures classes { classes_of arena.new ≡ classes_of arena.old }
-{
-    if changes_key(arena, mapping, child, relation, old, parent) {
-        return Err(Refusal::InvalidRequestError(RequestKind::KeyChange));
-    }
-    let change = set_change(alloc, arena, mapping, child, place, relation, old, parent)?;
-    apply(arena, child, change);
-    Ok(())
-}
-
 /// What the setting of a link makes of both sides.
 pub(crate) fn set_change(
     alloc: Global,
@@ -274,15 +87,13 @@ pub(crate) fn set_change(
     relation: &Relation,
     old: OldParent,
     parent: Option<ObjId>,
-) -> Result<Change, Refusal>
-    requires configured { mapping.now.configured ≡ true }
+) -> Result<Change, AllocError>
     requires child { IsObject arena.now child }
     requires parent { IsEnd arena.now parent }
     requires old { IsMade arena.now old }
     ensures change { IfOk result (λ change. change
         ≡ spec.set_change arena.now mapping.now child place relation.now old parent) }
     ensures placed { IfOk result (IsPlaced arena.now) }
-    ensures cause { IfErr result (λ e. e ≡ Memory) }
 {
     if old.is_known_as(parent) {
         return Ok(Change {
@@ -310,12 +121,11 @@ fn left_behind(
     child: ObjId,
     relation: &Relation,
     old: OldParent,
-) -> Result<Option<LinkPut>, Refusal>
+) -> Result<Option<LinkPut>, AllocError>
     requires { IsMade arena.now old }
     ensures put { IfOk result (λ put. put
         ≡ spec.left_behind arena.now mapping.now child relation.now old) }
     ensures placed { IfOk result (IsPutIn arena.now) }
-    ensures cause { IfErr result (λ e. e ≡ Memory) }
 {
     match old {
         OldParent::Known(Some(old)) => {
@@ -336,12 +146,11 @@ fn joined_to(
     child: ObjId,
     relation: &Relation,
     parent: Option<ObjId>,
-) -> Result<Option<LinkPut>, Refusal>
+) -> Result<Option<LinkPut>, AllocError>
     requires { IsEnd arena.now parent }
     ensures put { IfOk result (λ put. put
         ≡ spec.joined_to arena.now child relation.now parent) }
     ensures placed { IfOk result (IsPutIn arena.now) }
-    ensures cause { IfErr result (λ e. e ≡ Memory) }
 {
     match parent {
         None => Ok(None),
@@ -370,107 +179,6 @@ fn orphan_by(orphans: bool, parent: Option<ObjId>) -> Option<bool>
     }
 }
 
-/// Appends a member, unless it is there already.
-fn append_new(
-    alloc: Global,
-    arena: &mut Arena,
-    mapping: &Mapping,
-    owner: ObjId,
-    place: RelNo,
-    relation: &Relation,
-    member: ObjId,
-) -> Result<(), Refusal>
-    requires configured { mapping.now.configured ≡ true }
-    requires fit { IsFit mapping.now arena.old }
-    requires owner { IsObject arena.old owner }
-    requires member { IsObject arena.old member }
-    ensures step { Takes (λ _. tt)
-        (spec.append_new arena.old mapping.now owner place relation.now member) arena.old result
-        arena.new }
-    ensures fits { HasPairs mapping.now
-        → IsManyAt arena.old mapping.now owner place relation.now
-        → IsEndOf arena.old mapping.now relation.now.target (Some member)
-        → IsFit mapping.now arena.new }
-    ensures classes { classes_of arena.new ≡ classes_of arena.old }
-{
-    if has_member(arena, owner, place, member) {
-        return Ok(());
-    }
-    append_to(alloc, arena, mapping, owner, place, relation, member)
-}
-
-/// Takes a member out, if it is there.
-fn remove_member(
-    alloc: Global,
-    arena: &mut Arena,
-    mapping: &Mapping,
-    owner: ObjId,
-    place: RelNo,
-    relation: &Relation,
-    member: ObjId,
-) -> Result<(), Refusal>
-    requires fit { IsFit mapping.now arena.old }
-    requires owner { IsObject arena.old owner }
-    requires member { IsObject arena.old member }
-    ensures step { Takes (λ _. tt)
-        (spec.remove_member arena.old owner place relation.now member) arena.old result
-        arena.new }
-    ensures fits { HasPairs mapping.now
-        → IsManyAt arena.old mapping.now owner place relation.now
-        → IsEndOf arena.old mapping.now relation.now.target (Some member)
-        → IsFit mapping.now arena.new }
-    ensures classes { classes_of arena.new ≡ classes_of arena.old }
-{
-    if !has_member(arena, owner, place, member) {
-        return Err(Refusal::InvalidRequestError(RequestKind::NotAMember));
-    }
-    let change = remove_change(alloc, arena, owner, place, relation, member)?;
-    apply(arena, member, change);
-    Ok(())
-}
-
-/// Appends a member that is not there yet.
-fn append_to(
-    alloc: Global,
-    arena: &mut Arena,
-    mapping: &Mapping,
-    owner: ObjId,
-    place: RelNo,
-    relation: &Relation,
-    member: ObjId,
-) -> Result<(), Refusal>
-    requires configured { mapping.now.configured ≡ true }
-    requires fit { IsFit mapping.now arena.old }
-    requires owner { IsObject arena.old owner }
-    requires member { IsObject arena.old member }
-    ensures step { Takes (λ _. tt)
-        (spec.append_to arena.old mapping.now owner place relation.now member) arena.old result
-        arena.new }
-    ensures fits { HasPairs mapping.now
-        → IsManyAt arena.old mapping.now owner place relation.now
-        → IsEndOf arena.old mapping.now relation.now.target (Some member)
-        → IsFit mapping.now arena.new }
-    ensures classes { classes_of arena.new ≡ classes_of arena.old }
-{
-    if relation.far.is_some() {
-        let change = join_change(alloc, arena, owner, place, relation, member)?;
-        apply(arena, owner, change);
-        return Ok(());
-    }
-    match mapping.partner_of(relation) {
-        None => Ok(()),
-        Some(link) => set_to(
-            alloc,
-            arena,
-            mapping,
-            member,
-            relation.partner,
-            link,
-            Some(owner),
-        ),
-    }
-}
-
 /// Of many-to-many, each joins the collection of the other.
 pub(crate) fn join_change(
     alloc: Global,
@@ -479,13 +187,12 @@ pub(crate) fn join_change(
     place: RelNo,
     relation: &Relation,
     member: ObjId,
-) -> Result<Change, Refusal>
+) -> Result<Change, AllocError>
     requires owner { IsObject arena.now owner }
     requires member { IsObject arena.now member }
     ensures change { IfOk result (λ change. change
         ≡ spec.join_change arena.now owner place relation.now member) }
     ensures placed { IfOk result (IsPlaced arena.now) }
-    ensures cause { IfErr result (λ e. e ≡ Memory) }
 {
     let joined = joining(alloc, arena, owner, place, member)?;
     let own = joining(alloc, arena, member, relation.partner, owner)?;
@@ -505,13 +212,12 @@ pub(crate) fn remove_change(
     place: RelNo,
     relation: &Relation,
     member: ObjId,
-) -> Result<Change, Refusal>
+) -> Result<Change, AllocError>
     requires owner { IsObject arena.now owner }
     requires member { IsObject arena.now member }
     ensures change { IfOk result (λ change. change
         ≡ spec.remove_change arena.now owner place relation.now member) }
     ensures placed { IfOk result (IsPlaced arena.now) }
-    ensures cause { IfErr result (λ e. e ≡ Memory) }
 {
     let left = leaving(alloc, arena, owner, place, member)?;
     if relation.far.is_some() {

@@ -1,20 +1,19 @@
 //! The object to which a many-to-one link has led.
 
-ghost use Rattle.std.specs.Prelude.{◌≡◌, ◌<◌, IfOk, IfErr, true, is_none, length};
+ghost use Rattle.std.specs.Prelude.{◌≡◌, ◌<◌, IfOk, true, is_none, length};
 ghost use Rattle.std.specs.List.{position};
 ghost use Rattle.std.specs.Option.{option_copied};
-ghost use Rattle.base_core.specs.declared.refusal.Refusal.TheVariants.{Memory};
 ghost use Rattle.schema_core.specs.Tables.{has_null, is_null, value_or_null};
 ghost use Rattle.class_mapping.specs.Mapped.{IsClass, relations_of, root_of};
 ghost use Rattle.object_arena.specs.Fit.{IsFit, relation_of};
 ghost use Rattle.object_arena.specs.Graph.{IsObject, object_at};
 ghost use Rattle.relations.specs.Parents as spec;
 
-use base_core::{ClassId, Copied, Key, ListOf, Name, ObjId, Refusal, RelNo, TableId, Value};
+use base_core::{ClassId, Copied, Key, ListOf, Name, ObjId, RelNo, TableId, Value};
 use class_mapping::{Attribute, Mapping, Relation};
 use class_sides::names_of;
 use object_arena::{Arena, Cell, Link, Object};
-use std::alloc::Global;
+use std::alloc::{AllocError, Global};
 
 /// What is known of the object to which a link has led.
 #[derive(Clone, Copy)]
@@ -35,8 +34,7 @@ pub fn old_parent(
     mapping: &Mapping,
     child: ObjId,
     place: RelNo,
-) -> Result<OldParent, Refusal>
-    requires configured { mapping.now.configured ≡ true }
+) -> Result<OldParent, AllocError>
     requires fit { IsFit mapping.now arena.now }
     requires child { IsObject arena.now child }
     requires relation { place.0
@@ -44,7 +42,6 @@ pub fn old_parent(
     ensures parent { IfOk result (λ old. old ≡ spec.old_parent arena.now mapping.now child place
         (relation_of mapping.now (object_at arena.now child).class place)) }
     ensures made { IfOk result (spec.IsMade arena.now) }
-    ensures cause { IfErr result (λ e. e ≡ Memory) }
 {
     let relation = &mapping.relations(arena.object(child).class)[place.0 as usize];
     parent_before(alloc, arena, mapping, child, place, relation)
@@ -59,14 +56,12 @@ pub(crate) fn parent_before(
     child: ObjId,
     place: RelNo,
     relation: &Relation,
-) -> Result<OldParent, Refusal>
-    requires configured { mapping.now.configured ≡ true }
+) -> Result<OldParent, AllocError>
     requires fit { IsFit mapping.now arena.now }
     requires child { IsObject arena.now child }
     ensures parent { IfOk result (λ old. old
         ≡ spec.old_parent arena.now mapping.now child place relation.now) }
     ensures made { IfOk result (spec.IsMade arena.now) }
-    ensures cause { IfErr result (λ e. e ≡ Memory) }
 {
     let record = arena.object(child);
     match record.links.get(place.0 as usize) {
@@ -85,13 +80,11 @@ fn parent_by_cells(
     mapping: &Mapping,
     object: &Object,
     relation: &Relation,
-) -> Result<OldParent, Refusal>
-    requires configured { mapping.now.configured ≡ true }
+) -> Result<OldParent, AllocError>
     requires declared { IsClass mapping.now object.now.class }
     ensures parent { IfOk result (λ old. old
         ≡ spec.parent_by_cells arena.now mapping.now object.now relation.now) }
     ensures made { IfOk result (spec.IsMade arena.now) }
-    ensures cause { IfErr result (λ e. e ≡ Memory) }
 {
     let attributes = mapping.attributes(object.class);
     let table = relation.foreign.0;
@@ -164,10 +157,9 @@ fn values_in(
     cells: &[Cell],
     table: TableId,
     names: &[Name],
-) -> Result<Key, Refusal>
-    ensures values { IfOk result (λ values. values
+) -> Result<Key, AllocError>
+    ensures { IfOk result (λ values. values
         ≡ spec.values_in attributes.now cells.now table names.now) }
-    ensures cause { IfErr result (λ e. e ≡ Memory) }
 {
     let mut values = ListOf::new(alloc);
     for name in names {
@@ -176,9 +168,8 @@ fn values_in(
     Ok(values)
 }
 
-fn copied_or_null(value: Option<&Value>) -> Result<Value, Refusal>
-    ensures copy { IfOk result (λ copy. copy ≡ value_or_null (option_copied value.entry)) }
-    ensures cause { IfErr result (λ e. e ≡ Memory) }
+fn copied_or_null(value: Option<&Value>) -> Result<Value, AllocError>
+    ensures { IfOk result (λ copy. copy ≡ value_or_null (option_copied value.entry)) }
 {
     match value {
         None => Ok(Value::Null),

@@ -1,8 +1,7 @@
 //! The order of rows, or a cycle, in time by the number of pairs of which one waits for the other.
 
-ghost use Rattle.std.specs.Prelude.{◌≡◌, ◌<◌, ◌≤◌, ◌++◌, ℕ, true, false, length, slice_index_or, IfOk, IfErr, IfSome, IfNone, OnOk};
+ghost use Rattle.std.specs.Prelude.{◌≡◌, ◌<◌, ◌≤◌, ◌++◌, ℕ, true, false, length, slice_index_or, IfOk, IfSome, IfNone, OnOk};
 ghost use Rattle.std.specs.List.{All};
-ghost use Rattle.base_core.specs.declared.refusal.Refusal.TheVariants.{Memory};
 ghost use Rattle.row_order.specs.Lists.{AreRows, AreTold, list_at, rows_within, waits_in};
 ghost use Rattle.row_order.specs.Places.{order_or_cycle};
 ghost use Rattle.row_order.specs.Told.{rows_of, order_result};
@@ -10,7 +9,7 @@ ghost use Rattle.row_order.specs.Told.{rows_of, order_result};
 use crate::places::{Ordered, Waits, cycle_from, is_among};
 use crate::search::{Rows, search_order};
 use crate::waiting::waiting_of;
-use base_core::{ListOf, Refusal};
+use base_core::ListOf;
 use std::alloc::{AllocError, Global};
 
 impl<'a> Waits for Rows<'a> {
@@ -31,7 +30,7 @@ impl<'a> Waits for Rows<'a> {
         is_among(self.lists[row as usize].as_slice(), other)
     }
 
-    fn lists(&self, alloc: Global) -> Result<Vec<ListOf<u32>>, Refusal> {
+    fn lists(&self, alloc: Global) -> Result<Vec<ListOf<u32>>, AllocError> {
         Ok(lists_within(alloc, self.lists)?)
     }
 }
@@ -53,15 +52,14 @@ fn first_left(left: &[bool]) -> Option<u32>
     None
 }
 
-/// The order of rows of which each lists those for which it waits, or a cycle where rows are left. The only refusal is `Memory`.
-pub fn order_of_lists(alloc: Global, lists: &[ListOf<u32>]) -> Result<Ordered, Refusal>
+/// The order of rows of which each lists those for which it waits, or a cycle where rows are left.
+pub fn order_of_lists(alloc: Global, lists: &[ListOf<u32>]) -> Result<Ordered, AllocError>
     requires size { length lists.now ≤ 4294967295 }
     requires rows { AreRows lists.now }
     ensures told { IfOk result
         (λ ordered. order_result ordered ≡ order_or_cycle (waits_in lists.now) (length lists.now)) }
     ensures within { IfOk result
         (λ ordered. All (λ row. row < length lists.now) (rows_of ordered)) }
-    ensures cause { IfErr result (λ e. e ≡ Memory) }
 {
     let waiting = waiting_of(alloc, lists)?;
     let rows = Rows {
@@ -114,14 +112,13 @@ fn lists_within(alloc: Global, lists: &[ListOf<u32>]) -> Result<Vec<ListOf<u32>>
     Ok(within)
 }
 
-/// The order, or a cycle where rows are left. The only refusal is `Memory`.
-pub fn order_or_cycle<W: Waits>(alloc: Global, rows: &W) -> Result<Ordered, Refusal>
+/// The order, or a cycle where rows are left.
+pub fn order_or_cycle<W: Waits>(alloc: Global, rows: &W) -> Result<Ordered, AllocError>
     requires holds { W.holds rows.now }
     ensures told { IfOk result
         (λ ordered. order_result ordered ≡ order_or_cycle (W.waits rows.now) (W.size rows.now)) }
     ensures within { IfOk result
         (λ ordered. All (λ row. row < W.size rows.now) (rows_of ordered)) }
-    ensures cause { IfErr result (λ e. e ≡ Memory) }
 {
     let lists = rows.lists(alloc)?;
     order_of_lists(alloc, lists.as_slice())

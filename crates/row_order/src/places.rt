@@ -1,12 +1,11 @@
 //! The order of rows of which some wait for others.
 
-ghost use Rattle.std.specs.Prelude.{◌≡◌, ◌<◌, ◌≤◌, ℕ, Bool, length, IfOk, IfErr};
-ghost use Rattle.base_core.specs.declared.refusal.Refusal.TheVariants.{Memory};
+ghost use Rattle.std.specs.Prelude.{◌≡◌, ◌<◌, ◌≤◌, ℕ, Bool, length, IfOk};
 ghost use Rattle.row_order.specs.Lists.{AreListsOf};
 ghost use Rattle.row_order.specs.Places.{cycle_from, from_row, holds_up, is_among, next_blocker, order};
 
-use base_core::{ListOf, Refusal};
-use std::alloc::Global;
+use base_core::ListOf;
+use std::alloc::{AllocError, Global};
 
 /// Rows, told by their places, of which some wait for others.
 pub trait Waits {
@@ -28,13 +27,12 @@ pub trait Waits {
         requires other { other < size self.now }
         ensures { result ≡ waits self.now row other };
 
-    /// For each row those for which it waits. The only refusal is `Memory`.
-    fn lists(&self, alloc: Global) -> Result<Vec<ListOf<u32>>, Refusal>
+    /// For each row those for which it waits.
+    fn lists(&self, alloc: Global) -> Result<Vec<ListOf<u32>>, AllocError>
         requires { holds self.now }
         ensures lists { IfOk result
             (λ lists. AreListsOf (waits self.now) (size self.now) lists.items) }
-        ensures fewer { IfOk result (λ lists. length lists.items ≤ 4294967295) }
-        ensures cause { IfErr result (λ e. e ≡ Memory) };
+        ensures fewer { IfOk result (λ lists. length lists.items ≤ 4294967295) };
 }
 
 /// Whether the row is one of these.
@@ -72,9 +70,8 @@ fn next_blocker<W: Waits>(rows: &W, placed: &[u32], row: u32) -> u32
 
 #[tactic(auto, using(crate::proofs::Ranges::from_steps))]
 /// The list from this row on.
-fn from_row(alloc: Global, row: u32, path: &[u32]) -> Result<Vec<u32>, Refusal>
-    ensures rows { IfOk result (λ rows. rows.items ≡ from_row row path.now) }
-    ensures cause { IfErr result (λ e. e ≡ Memory) }
+fn from_row(alloc: Global, row: u32, path: &[u32]) -> Result<Vec<u32>, AllocError>
+    ensures { IfOk result (λ rows. rows.items ≡ from_row row path.now) }
 {
     for (place, first) in path.iter().enumerate() {
         if row == *first {
@@ -92,13 +89,12 @@ pub(crate) fn cycle_from<W: Waits>(
     rows: &W,
     placed: &[u32],
     least: u32,
-) -> Result<Vec<u32>, Refusal>
+) -> Result<Vec<u32>, AllocError>
     requires ordered { placed.now ≡ order (W.waits rows.now) (W.size rows.now) }
     requires holds { W.holds rows.now }
     requires least { least < W.size rows.now }
-    ensures rows { IfOk result
+    ensures { IfOk result
         (λ path. path.items ≡ cycle_from (W.waits rows.now) (W.size rows.now) least) }
-    ensures cause { IfErr result (λ e. e ≡ Memory) }
 {
     let mut path = Vec::new(alloc);
     let mut row = least;

@@ -1,16 +1,15 @@
 //! The order of rows of which each lists those for which it waits, found in time by the lengths of the lists.
 
-ghost use Rattle.std.specs.Prelude.{◌≡◌, ◌<◌, ◌≤◌, ◌+◌, ◌-◌, ◌++◌, ◌∷◌, ◌&&◌, ◌||◌, [], ℕ, cond, not, true, false, nat_eq, nat_lt, map, length, replicate, slice_index, slice_index_or, slice_set, IfOk, IfErr, IfSome, IfNone, OnOk};
+ghost use Rattle.std.specs.Prelude.{◌≡◌, ◌<◌, ◌≤◌, ◌+◌, ◌-◌, ◌++◌, ◌∷◌, ◌&&◌, ◌||◌, [], ℕ, cond, not, true, false, nat_eq, nat_lt, map, length, replicate, slice_index, slice_index_or, slice_set, IfOk, IfSome, IfNone, OnOk};
 ghost use Rattle.std.specs.List.{All};
 ghost use Rattle.std.specs.Option.{option_to_list};
 ghost use Rattle.std.specs.Ordering.{nat_cmp};
 ghost use Rattle.std.specs.BTreeSet.{contains};
-ghost use Rattle.base_core.specs.declared.refusal.Refusal.TheVariants.{Memory};
 ghost use Rattle.row_order.specs.Places.{next_place, order};
 ghost use Rattle.row_order.specs.Lists.{AreMirrored, AreRows, Stands, list_at, waits_in, times};
 
-use base_core::{ListOf, Refusal};
-use std::alloc::Global;
+use base_core::ListOf;
+use std::alloc::{AllocError, Global};
 use std::collections::BTreeSet;
 
 /// For each row the rows for which it waits, and those that wait for it.
@@ -21,7 +20,7 @@ pub struct Rows<'a> {
 }
 
 /// A row waits for one less, and is ready where that was the last.
-fn release(counts: &mut Vec<usize>, ready: &mut BTreeSet<u32>, row: u32) -> Result<(), Refusal>
+fn release(counts: &mut Vec<usize>, ready: &mut BTreeSet<u32>, row: u32) -> Result<(), AllocError>
     requires within { row < length counts.old.items }
     requires some { 0 < slice_index counts.old.items row }
     ensures counts { OnOk result (counts.new.items
@@ -29,7 +28,6 @@ fn release(counts: &mut Vec<usize>, ready: &mut BTreeSet<u32>, row: u32) -> Resu
     ensures ready { OnOk result ((other : ℕ) → contains nat_cmp ready.new other
         ≡ (contains nat_cmp ready.old other
         || (nat_eq row other && nat_eq (slice_index counts.old.items row) 1))) }
-    ensures cause { IfErr result (λ e. e ≡ Memory) }
 {
     let count = counts[row as usize];
     counts[row as usize] = count - 1;
@@ -44,7 +42,7 @@ fn release_all(
     counts: &mut Vec<usize>,
     ready: &mut BTreeSet<u32>,
     rows: &[u32],
-) -> Result<(), Refusal>
+) -> Result<(), AllocError>
     requires within { All (λ row. row < length counts.old.items) rows.now }
     requires enough { (row : ℕ) → times row rows.now ≤ slice_index counts.old.items row }
     ensures size { OnOk result (length counts.new.items ≡ length counts.old.items) }
@@ -53,7 +51,6 @@ fn release_all(
     ensures ready { OnOk result ((row : ℕ) → contains nat_cmp ready.new row
         ≡ (contains nat_cmp ready.old row
         || (nat_lt 0 (times row rows.now) && nat_eq (slice_index counts.new.items row) 0))) }
-    ensures cause { IfErr result (λ e. e ≡ Memory) }
 {
     for row in rows {
         release(counts, ready, *row)?;
@@ -84,7 +81,7 @@ pub(crate) struct Search {
 }
 
 /// The least row that is ready is placed, if there is one, and those that wait for it wait for one less.
-fn place_next(search: &mut Search, rows: &Rows) -> Result<(), Refusal>
+fn place_next(search: &mut Search, rows: &Rows) -> Result<(), AllocError>
     requires rows { AreRows rows.now.lists.now }
     requires mirrored { AreMirrored rows.now.lists.now rows.now.waiting.now }
     requires stands { Stands rows.now.lists.now search.old.placed.items search.old.counts.items
@@ -94,7 +91,6 @@ fn place_next(search: &mut Search, rows: &Rows) -> Result<(), Refusal>
     ensures placed { OnOk result (search.new.placed.items ≡ search.old.placed.items
         ++ option_to_list (next_place (waits_in rows.now.lists.now) (length rows.now.lists.now)
         search.old.placed.items)) }
-    ensures cause { IfErr result (λ e. e ≡ Memory) }
 {
     match take_first(&mut search.ready) {
         None => Ok(()),
@@ -109,9 +105,8 @@ fn place_next(search: &mut Search, rows: &Rows) -> Result<(), Refusal>
 }
 
 /// The lengths of lists.
-fn lengths(alloc: Global, lists: &[ListOf<u32>]) -> Result<Vec<usize>, Refusal>
-    ensures lengths { IfOk result (λ counts. counts.items ≡ map length lists.now) }
-    ensures cause { IfErr result (λ e. e ≡ Memory) }
+fn lengths(alloc: Global, lists: &[ListOf<u32>]) -> Result<Vec<usize>, AllocError>
+    ensures { IfOk result (λ counts. counts.items ≡ map length lists.now) }
 {
     let mut counts = Vec::new(alloc);
     for list in lists {
@@ -121,9 +116,8 @@ fn lengths(alloc: Global, lists: &[ListOf<u32>]) -> Result<Vec<usize>, Refusal>
 }
 
 /// So many marks that a row is left.
-fn all_left(alloc: Global, size: usize) -> Result<Vec<bool>, Refusal>
-    ensures left { IfOk result (λ left. left.items ≡ replicate size true) }
-    ensures cause { IfErr result (λ e. e ≡ Memory) }
+fn all_left(alloc: Global, size: usize) -> Result<Vec<bool>, AllocError>
+    ensures { IfOk result (λ left. left.items ≡ replicate size true) }
 {
     let mut left = Vec::new(alloc);
     for _row in 0..size {
@@ -133,11 +127,10 @@ fn all_left(alloc: Global, size: usize) -> Result<Vec<bool>, Refusal>
 }
 
 /// The rows whose lists are empty.
-fn first_ready(alloc: Global, lists: &[ListOf<u32>]) -> Result<BTreeSet<u32>, Refusal>
+fn first_ready(alloc: Global, lists: &[ListOf<u32>]) -> Result<BTreeSet<u32>, AllocError>
     requires { length lists.now ≤ 4294967295 }
-    ensures ready { IfOk result (λ ready. (other : ℕ) → contains nat_cmp ready other
+    ensures { IfOk result (λ ready. (other : ℕ) → contains nat_cmp ready other
         ≡ (nat_lt other (length lists.now) && nat_eq (length (list_at lists.now other)) 0)) }
-    ensures cause { IfErr result (λ e. e ≡ Memory) }
 {
     let mut ready = BTreeSet::new(alloc);
     for (row, list) in lists.iter().enumerate() {
@@ -147,10 +140,9 @@ fn first_ready(alloc: Global, lists: &[ListOf<u32>]) -> Result<BTreeSet<u32>, Re
 }
 
 /// A row that waits for none is ready.
-fn enter(ready: &mut BTreeSet<u32>, row: u32, count: usize) -> Result<(), Refusal>
-    ensures ready { OnOk result ((other : ℕ) → contains nat_cmp ready.new other
+fn enter(ready: &mut BTreeSet<u32>, row: u32, count: usize) -> Result<(), AllocError>
+    ensures { OnOk result ((other : ℕ) → contains nat_cmp ready.new other
         ≡ (contains nat_cmp ready.old other || (nat_eq row other && nat_eq count 0))) }
-    ensures cause { IfErr result (λ e. e ≡ Memory) }
 {
     if count == 0 {
         ready.insert(row)?;
@@ -159,12 +151,11 @@ fn enter(ready: &mut BTreeSet<u32>, row: u32, count: usize) -> Result<(), Refusa
 }
 
 /// No row is placed yet.
-fn start(alloc: Global, lists: &[ListOf<u32>]) -> Result<Search, Refusal>
+fn start(alloc: Global, lists: &[ListOf<u32>]) -> Result<Search, AllocError>
     requires { length lists.now ≤ 4294967295 }
     ensures placed { IfOk result (λ search. search.placed.items ≡ []) }
     ensures stands { IfOk result (λ search. Stands lists.now search.placed.items
         search.counts.items search.left.items search.ready) }
-    ensures cause { IfErr result (λ e. e ≡ Memory) }
 {
     let counts = lengths(alloc, lists)?;
     let left = all_left(alloc, lists.len())?;
@@ -179,7 +170,7 @@ fn start(alloc: Global, lists: &[ListOf<u32>]) -> Result<Search, Refusal>
 }
 
 /// As many rows as can be are placed, each time the least one that is ready.
-pub(crate) fn search_order(alloc: Global, rows: &Rows) -> Result<Search, Refusal>
+pub(crate) fn search_order(alloc: Global, rows: &Rows) -> Result<Search, AllocError>
     requires size { length rows.now.lists.now ≤ 4294967295 }
     requires rows { AreRows rows.now.lists.now }
     requires mirrored { AreMirrored rows.now.lists.now rows.now.waiting.now }
@@ -187,7 +178,6 @@ pub(crate) fn search_order(alloc: Global, rows: &Rows) -> Result<Search, Refusal
         search.counts.items search.left.items search.ready) }
     ensures order { IfOk result (λ search. search.placed.items
         ≡ order (waits_in rows.now.lists.now) (length rows.now.lists.now)) }
-    ensures cause { IfErr result (λ e. e ≡ Memory) }
 {
     let mut search = start(alloc, rows.lists)?;
     for _row in 0..rows.lists.len() {

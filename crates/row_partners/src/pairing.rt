@@ -1,9 +1,8 @@
 //! Which new rows are switched with which deleted ones.
 
-ghost use Rattle.std.specs.Prelude.{◌≡◌, ◌&&◌, cond, not, Some, None, IfOk, IfErr, OnOk, if◌then◌else◌};
+ghost use Rattle.std.specs.Prelude.{◌≡◌, ◌&&◌, cond, not, Some, None, IfOk, OnOk, if◌then◌else◌};
 ghost use Rattle.std.specs.BTreeMap.{get};
 ghost use Rattle.std.specs.List.{All, position};
-ghost use Rattle.base_core.specs.declared.refusal.Refusal.TheVariants.{Memory};
 ghost use Rattle.schema_core.specs.Catalog.{IsTable};
 ghost use Rattle.schema_core.specs.Tables.{has_null};
 ghost use Rattle.flush_order.specs.Orders.{place_of_gone};
@@ -11,20 +10,23 @@ ghost use Rattle.flush_order.specs.Ready.{AreReady};
 ghost use Rattle.flush_order.specs.Sorted.{Place, place_cmp, same_place};
 ghost use Rattle.row_partners.specs.Partners as spec;
 
-use base_core::{Copied, Key, ListOf, Refusal, TableId, Value};
+use base_core::{Copied, Key, ListOf, TableId, Value};
 use flush_order::{NewRows, ReadyRow, push_key};
 use schema_core::{GoneRow, Schema};
-use std::alloc::Global;
+use std::alloc::{AllocError, Global};
 use std::collections::BTreeMap;
 
 /// The numbers of deleted rows by table and key.
 type Numbers = BTreeMap<(TableId, Key), usize>;
 
 /// A deleted row's table and key.
-fn place_of_gone(alloc: Global, schema: &Schema, row: &GoneRow) -> Result<(TableId, Key), Refusal>
+fn place_of_gone(
+    alloc: Global,
+    schema: &Schema,
+    row: &GoneRow,
+) -> Result<(TableId, Key), AllocError>
     requires { IsTable schema.now row.now.name.table }
-    ensures place { IfOk result (λ place. place ≡ place_of_gone schema.now row.now) }
-    ensures cause { IfErr result (λ e. e ≡ Memory) }
+    ensures { IfOk result (λ place. place ≡ place_of_gone schema.now row.now) }
 {
     let table = row.name.table;
     let mut key = Vec::new(alloc);
@@ -38,10 +40,9 @@ fn place_of_gone(alloc: Global, schema: &Schema, row: &GoneRow) -> Result<(Table
 
 #[tactic(auto, using(crate::proofs::PartnerSteps::place_steps))]
 /// A deleted row's number goes under its table and key.
-fn enter(numbers: &mut Numbers, place: (TableId, Key), number: usize) -> Result<(), Refusal>
-    ensures number { OnOk result ((wanted : Place) → get place_cmp numbers.new wanted
+fn enter(numbers: &mut Numbers, place: (TableId, Key), number: usize) -> Result<(), AllocError>
+    ensures { OnOk result ((wanted : Place) → get place_cmp numbers.new wanted
         ≡ cond (same_place place wanted) (Some number) (get place_cmp numbers.old wanted)) }
-    ensures cause { IfErr result (λ e. e ≡ Memory) }
 {
     numbers.insert(place, number)?;
     Ok(())
@@ -49,11 +50,10 @@ fn enter(numbers: &mut Numbers, place: (TableId, Key), number: usize) -> Result<
 
 #[tactic(auto, using(object_rows::proofs::PlaceSteps::place_steps))]
 /// The numbers of deleted rows: each is entered after those behind it, so that the first of several stays.
-fn numbers_of(alloc: Global, schema: &Schema, rows: &[GoneRow]) -> Result<Numbers, Refusal>
+fn numbers_of(alloc: Global, schema: &Schema, rows: &[GoneRow]) -> Result<Numbers, AllocError>
     requires { All (λ row. IsTable schema.now row.name.table) rows.now }
-    ensures numbers { IfOk result (λ numbers. (wanted : Place) → get place_cmp numbers wanted
+    ensures { IfOk result (λ numbers. (wanted : Place) → get place_cmp numbers wanted
         ≡ position (λ row. same_place (place_of_gone schema.now row) wanted) rows.now) }
-    ensures cause { IfErr result (λ e. e ≡ Memory) }
 {
     let mut numbers = BTreeMap::new(alloc);
     for behind in 0..rows.len() {
@@ -75,13 +75,12 @@ fn has_null(key: &[Value]) -> bool
 
 #[tactic(auto, using(crate::proofs::PartnerSteps::place_steps))]
 /// The deleted row with which a new row is switched is taken out, so that no row after it is switched with it.
-fn take(numbers: &mut Numbers, row: &ReadyRow) -> Result<Option<usize>, Refusal>
+fn take(numbers: &mut Numbers, row: &ReadyRow) -> Result<Option<usize>, AllocError>
     ensures partner { IfOk result (λ partner. partner ≡ (if has_null row.now.key then None
         else get place_cmp numbers.old (row.now.table, row.now.key))) }
     ensures others { OnOk result ((wanted : Place) → get place_cmp numbers.new wanted
         ≡ cond (not (has_null row.now.key) && same_place (row.now.table, row.now.key) wanted)
         None (get place_cmp numbers.old wanted)) }
-    ensures cause { IfErr result (λ e. e ≡ Memory) }
 {
     if has_null(row.key.as_slice()) {
         return Ok(None);
@@ -93,16 +92,12 @@ fn take(numbers: &mut Numbers, row: &ReadyRow) -> Result<Option<usize>, Refusal>
 #[tactic(auto, using(crate::proofs::PartnerSteps::partner_steps))]
 /// For each new row the number of the deleted one with which it is switched: they have one table and key, all of the new row's key is
 /// known before any key is drawn, and no new row before it has this key.
-///
-/// # Errors
-/// `Memory` alone.
-pub fn partners(alloc: Global, new: &NewRows) -> Result<Vec<Option<usize>>, Refusal>
+pub fn partners(alloc: Global, new: &NewRows) -> Result<Vec<Option<usize>>, AllocError>
     requires ready { AreReady new.now.schema.now new.now.changes.now new.now.rows.now }
     requires gone { All (λ row. IsTable new.now.schema.now row.name.table)
         new.now.changes.now.gone }
-    ensures partners { IfOk result
+    ensures { IfOk result
         (λ all. all.items ≡ spec.partners new.now.schema.now new.now.changes.now) }
-    ensures cause { IfErr result (λ e. e ≡ Memory) }
 {
     let mut numbers = numbers_of(alloc, new.schema, new.changes.gone.as_slice())?;
     let mut partners = Vec::new(alloc);

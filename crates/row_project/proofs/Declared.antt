@@ -1,34 +1,29 @@
 -- The tables of all rows are declared, and the columns of changed cells.
-use Rattle.std.proofs.Common.{◌≡◌, ℕ, ◌+◌, ◌<◌, ◌≤◌, Bool, true, false, cond, ◌&&◌, ◌==◌, List, [], ◌∷◌, ◌++◌, length, fold, map, Option, None, Some, unwrap_or, is_some, refl, sym, subst, ap, ◌∙◌, arith}
+use Rattle.std.proofs.Common.{◌≡◌, ℕ, ◌<◌, Bool, true, false, cond, ◌&&◌, ◌==◌, List, [], ◌∷◌, length, fold, map, Option, None, Some, unwrap_or, is_some, refl, ap, arith}
 use Rattle.std.proofs.lemmas.Bool.{and_parts}
 use Rattle.std.proofs.lemmas.List.Elements.{All-from_recursion, All-nil, recursion_from_All}
 use Rattle.std.proofs.lemmas.Map.Views.{All-insert_key}
 use Rattle.std.proofs.lemmas.Option.{slice_get_within}
-use Rattle.std.specs.Prelude.{slice_get, slice_index_or}
+use Rattle.std.specs.Prelude.{slice_get}
 use Rattle.std.specs.BTreeSet.{insert_key}
-use Rattle.std.specs.List.{All, AllByRecursion, enumerate_from, filter, filter_map, flat_map, list_any}
+use Rattle.std.specs.List.{All, AllByRecursion, enumerate_from, filter, filter_map, flat_map}
 use Rattle.std.specs.Option.{option_map}
 use Rattle.base_core.specs.declared.ids.ClassId.{ClassId}
 use Rattle.base_core.specs.declared.ids.ColumnNo.{ColumnNo}
 use Rattle.base_core.specs.declared.ids.ObjId.{ObjId}
 use Rattle.base_core.specs.declared.ids.TableId.{TableId}
 use Rattle.base_core.specs.declared.refusal.RowName.{RowName}
-use Rattle.base_core.specs.declared.value.Value.TheVariants.{Null}
-use Rattle.schema_core.specs.declared.changes.ChangedRow.{ChangedRow}
 use Rattle.schema_core.specs.declared.changes.GoneRow.{GoneRow}
 use Rattle.schema_core.specs.declared.changes.NewRow.{NewRow}
 use Rattle.schema_core.specs.declared.changes.RowCell.{RowCell}
-use Rattle.schema_core.specs.declared.changes.RowCell.TheVariants.{Given}
-use Rattle.schema_core.specs.declared.changes.RowChanges.{RowChanges}
 use Rattle.schema_core.specs.declared.table.ColumnSpec.{ColumnSpec}
 use Rattle.schema_core.specs.declared.table.TableSpec.{TableSpec}
-use Rattle.schema_core.specs.Catalog.{Catalog, IsTable, spec_of}
+use Rattle.schema_core.specs.Catalog.{IsTable}
 use Rattle.class_types.specs.declared.declared.ClassSpec.{ClassSpec}
 use Rattle.class_types.specs.declared.mapped.Relation.{Relation}
 use Rattle.class_layouts.specs.Columns.{own_table, table_in}
 use Rattle.class_layouts.specs.Faults.{foreigns_of}
-use Rattle.class_layouts.specs.declared.layout.Layout.{Layout}
-use Rattle.class_sides.specs.Keys.{TableKey, foreign_at}
+use Rattle.class_sides.specs.Keys.{TableKey}
 use Rattle.class_sides.specs.Sides.{is_all_keys}
 use Rattle.class_layouts.specs.Columns.{columns_in}
 use Rattle.class_layouts.specs.Faults.{foreigns_in}
@@ -39,7 +34,6 @@ use Rattle.class_mapping.proofs.PlainClassLemmas.{found_table}
 use Rattle.object_arena.specs.Fit.{IsFit}
 use Rattle.object_arena.specs.Graph.{Graph, IsObject, object_at}
 use Rattle.object_arena.proofs.FitLemmas.{fit_class}
-use Rattle.flush_order.specs.Orders.{gone_at}
 use Rattle.flush_order.specs.Ready.{IsInTable}
 use Rattle.object_rows.specs.declared.prepared.Prepared.{Prepared}
 use Rattle.object_rows.specs.Rows as rows
@@ -48,7 +42,6 @@ use Rattle.object_rows.proofs.ObjectSteps.{all_made}
 use Rattle.pair_rows.specs.Pairs as pairs
 use Rattle.row_project.specs.Changes.{object_changes}
 use Rattle.row_project.specs.Ready.{AreDeclared}
-use Rattle.row_switches.specs.Switch as switch
 use Rattle.row_switches.proofs.Each.{all_append, all_filter, all_filter_map, all_flat_map, all_given, all_if, all_map, each_to, flat_map_given, map_given, numbered, numbers_below}
 
 -- ---- the tables of a class
@@ -169,7 +162,7 @@ set_over mapped set (pair ∷ list) all each =
 as_set_over : (mapped : Mapped) (list : List pairs.Pair) → AllByRecursion (IsPaired mapped) list → AllByRecursion (IsPaired mapped) (pairs.as_set list)
 as_set_over mapped list each = recursion_from_All (IsPaired mapped) (pairs.as_set list) (set_over mapped [] list (All-nil (IsPaired mapped)) each)
 
-objects_made : (graph : Graph) → AllByRecursion (IsObject graph) (object_ids graph)
+pub objects_made : (graph : Graph) → AllByRecursion (IsObject graph) (object_ids graph)
 objects_made graph = recursion_from_All (IsObject graph) (object_ids graph) (all_made graph (object_ids graph) refl)
 
 module _ (mapped : Mapped) (graph : Graph) (prepared : Prepared) (related : AreRelated mapped) (fit : IsFit mapped graph) where

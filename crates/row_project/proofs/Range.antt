@@ -1,5 +1,5 @@
 -- Changes of which a plan can be made: their rows stay declared where some are switched.
-use Rattle.std.proofs.Common.{◌≡◌, ℕ, ◌+◌, ◌<◌, ◌≤◌, List, length, Option, sym, subst}
+use Rattle.std.proofs.Common.{◌≡◌, ℕ, ◌<◌, ◌≤◌, List, length, Option, sym, subst}
 use Rattle.std.proofs.lemmas.List.Elements.{All-from_get_or, All-from_recursion, All-get_or, recursion_from_All}
 use Rattle.std.specs.Prelude.{slice_index_or}
 use Rattle.std.specs.List.{All, filter_map}
@@ -66,7 +66,7 @@ project_declared mapped graph prepared related fit =
     let plain = object_changes mapped graph prepared in
     switch_declared mapped graph plain (switching.partners mapped.schema plain) (objects_declared mapped graph prepared related fit)
 
-in_range : (schema : Catalog) (changes : RowChanges) → AreDeclared schema changes → AreFew changes → length schema.tables ≤ 4294967295 → All (λ (spec : TableSpec). length spec.columns ≤ 4294967295) schema.tables → AreInRange schema changes
+pub in_range : (schema : Catalog) (changes : RowChanges) → AreDeclared schema changes → AreFew changes → length schema.tables ≤ 4294967295 → All (λ (spec : TableSpec). length spec.columns ≤ 4294967295) schema.tables → AreInRange schema changes
 in_range schema changes are few tables narrow = record {
   least = few.new;
   declared = λ place h. All-get_or (λ (row : NewRow). IsTable schema row.name.table) changes.fresh place no_row h (All-from_recursion (λ (row : NewRow). IsTable schema row.name.table) changes.fresh are.new);
@@ -82,15 +82,11 @@ pub all_narrow : (schema : Catalog) → ((place : ℕ) → place < length schema
 all_narrow schema each = All-from_get_or (λ (spec : TableSpec). length spec.columns ≤ 4294967295) schema.tables no_table each
 
 -- what the objects change
-pub objects_in_range : (mapped : Mapped) (graph : Graph) (prepared : Prepared) (changes : RowChanges) → changes ≡ object_changes mapped graph prepared → AreRelated mapped → IsFit mapped graph
-    → AreFew changes → length mapped.schema.tables ≤ 4294967295 → All (λ (spec : TableSpec). length spec.columns ≤ 4294967295) mapped.schema.tables → AreInRange mapped.schema changes
-objects_in_range mapped graph prepared changes is related fit few tables narrow =
-    in_range mapped.schema changes (subst (AreDeclared mapped.schema) (sym is) (objects_declared mapped graph prepared related fit)) few tables narrow
+pub plain_declared : (mapped : Mapped) (graph : Graph) (prepared : Prepared) (schema : Catalog) (changes : RowChanges) → schema ≡ mapped.schema → changes ≡ object_changes mapped graph prepared → AreRelated mapped → IsFit mapped graph → AreDeclared schema changes
+plain_declared mapped graph prepared schema changes of is related fit =
+    subst (λ (s : Catalog). AreDeclared s changes) (sym of) (subst (AreDeclared mapped.schema) (sym is) (objects_declared mapped graph prepared related fit))
 
 -- and with the switches
-pub all_in_range : (mapped : Mapped) (graph : Graph) (prepared : Prepared) (changes : RowChanges) → changes ≡ project mapped graph prepared → AreRelated mapped → IsFit mapped graph
-    → AreFew changes → length mapped.schema.tables ≤ 4294967295 → All (λ (spec : TableSpec). length spec.columns ≤ 4294967295) mapped.schema.tables → AreInRange mapped.schema changes
-all_in_range mapped graph prepared changes is related fit few tables narrow =
-    in_range mapped.schema changes (subst (AreDeclared mapped.schema) (sym is) (project_declared mapped graph prepared related fit)) few tables narrow
-
-pub ruleset range_steps = (objects_in_range, all_in_range)
+pub all_declared : (mapped : Mapped) (graph : Graph) (prepared : Prepared) (schema : Catalog) (changes : RowChanges) → schema ≡ mapped.schema → changes ≡ project mapped graph prepared → AreRelated mapped → IsFit mapped graph → AreDeclared schema changes
+all_declared mapped graph prepared schema changes of is related fit =
+    subst (λ (s : Catalog). AreDeclared s changes) (sym of) (subst (AreDeclared mapped.schema) (sym is) (project_declared mapped graph prepared related fit))

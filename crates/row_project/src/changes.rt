@@ -1,36 +1,35 @@
 //! All that a flush of a prepared graph changes.
 
-ghost use Rattle.std.specs.Prelude.{◌≡◌, ◌≤◌, true, length, IsTrue, IfOk, IfErr};
+ghost use Rattle.std.specs.Prelude.{◌≡◌, ◌≤◌, length, IsTrue, IfOk};
 ghost use Rattle.std.specs.List.{All};
-ghost use Rattle.base_core.specs.declared.refusal.Refusal.TheVariants.{Memory};
-ghost use Rattle.flush_order.specs.Ready.{AreInRange};
+ghost use Rattle.flush_order.specs.Ready.{AreInRange, AreReady};
 ghost use Rattle.object_arena.specs.Fit.{IsFit};
 ghost use Rattle.object_arena.specs.Graph.{IsObject};
 ghost use Rattle.object_rows.specs.Seen.{AreMade};
 ghost use Rattle.object_writes.specs.Ready.{IsReady};
 ghost use Rattle.row_project.specs.Changes as spec;
 ghost use Rattle.row_project.specs.Changes.{project};
-ghost use Rattle.row_project.specs.Ready.{AreFew};
+ghost use Rattle.row_project.specs.Ready.{AreDeclared, AreFew};
 
 use crate::outside::warnings;
-use base_core::{ListOf, Refusal, TableId};
+use base_core::{ListOf, TableId, both};
 use class_mapping::Mapping;
+use flush_order::{NewRows, ReadyRow, ready_rows};
 use object_arena::Arena;
 use object_rows::{Prepared, late_keys, new_names};
 use object_writes::{Projection, gone_rows};
 use pair_rows::{push_lost_rows, push_made_rows};
-use row_switches::{both, with_switches};
+use row_switches::switched_changes;
 use schema_core::{GoneRow, NewRow, RowChanges, Schema};
-use std::alloc::Global;
+use std::alloc::{AllocError, Global};
 
 /// The rows that are new: those of objects, and behind them those of pairs.
-fn rows_made(alloc: Global, projection: &Projection) -> Result<ListOf<NewRow>, Refusal>
+fn rows_made(alloc: Global, projection: &Projection) -> Result<ListOf<NewRow>, AllocError>
     requires ready { IsReady projection.now }
     requires made { All
         (λ row. IsObject projection.now.arena.now row.object) projection.now.names.now }
-    ensures rows { IfOk result (λ rows. rows ≡ spec.fresh_rows projection.now.mapping.now
+    ensures { IfOk result (λ rows. rows ≡ spec.fresh_rows projection.now.mapping.now
         projection.now.arena.now projection.now.prepared.now) }
-    ensures cause { IfErr result (λ e. e ≡ Memory) }
 {
     let mut rows = projection.new_rows(alloc)?;
     push_made_rows(&mut rows, projection, alloc)?;
@@ -43,13 +42,11 @@ fn rows_taken(
     arena: &Arena,
     mapping: &Mapping,
     prepared: &Prepared,
-) -> Result<ListOf<GoneRow>, Refusal>
-    requires configured { mapping.now.configured ≡ true }
+) -> Result<ListOf<GoneRow>, AllocError>
     requires fit { IsFit mapping.now arena.now }
     requires made { AreMade arena.now prepared.now }
-    ensures rows { IfOk result
+    ensures { IfOk result
         (λ rows. rows ≡ spec.rows_lost mapping.now arena.now prepared.now) }
-    ensures cause { IfErr result (λ e. e ≡ Memory) }
 {
     let mut rows = gone_rows(alloc, arena, mapping, prepared)?;
     push_lost_rows(&mut rows, alloc, arena, mapping, prepared)?;
@@ -76,21 +73,16 @@ fn rows_taken(
 ///
 /// Written after all rows are the foreign keys of which a relationship says `post_update`. Objects outside the session that
 /// changed links name are skipped with a warning, by owner, relationship and member.
-///
-/// # Errors
-/// `Memory` alone.
 pub fn object_changes(
     alloc: Global,
     arena: &Arena,
     mapping: &Mapping,
     prepared: &Prepared,
-) -> Result<RowChanges, Refusal>
-    requires configured { mapping.now.configured ≡ true }
+) -> Result<RowChanges, AllocError>
     requires fit { IsFit mapping.now arena.now }
     requires made { AreMade arena.now prepared.now }
-    ensures changes { IfOk result
+    ensures { IfOk result
         (λ changes. changes ≡ spec.object_changes mapping.now arena.now prepared.now) }
-    ensures cause { IfErr result (λ e. e ≡ Memory) }
 {
     let names = new_names(alloc, mapping, arena, prepared)?;
     let projection = Projection {
@@ -144,7 +136,58 @@ fn are_narrow(schema: &Schema) -> bool
     true
 }
 
-#[tactic(auto, using(crate::proofs::Range::range_steps))]
+/// The new rows of changes, made ready for a plan. Where there are more rows, or more columns of a table, than have numbers, it is
+/// told as for want of memory.
+fn rows_ready(
+    alloc: Global,
+    schema: &Schema,
+    changes: &RowChanges,
+) -> Result<Vec<ReadyRow>, AllocError>
+    requires { AreDeclared schema.now changes.now }
+    ensures range { IfOk result (λ rows. AreInRange schema.now changes.now) }
+    ensures ready { IfOk result (λ rows. AreReady schema.now changes.now rows.items) }
+{
+    if !are_narrow(schema) || !are_few(changes) {
+        return Err(AllocError);
+    }
+    ready_rows(alloc, schema, changes)
+}
+
+/// What a flush of a prepared graph changes (`project`), with its new rows made ready for a plan. Where no key passes from a
+/// deleted row to a new one, they are made ready once.
+///
+/// # Errors
+/// As of `project`.
+pub fn project_ready(
+    alloc: Global,
+    arena: &Arena,
+    mapping: &Mapping,
+    prepared: &Prepared,
+) -> Result<(RowChanges, Vec<ReadyRow>), AllocError>
+    requires fit { IsFit mapping.now arena.now }
+    requires made { AreMade arena.now prepared.now }
+    ensures changes { IfOk result
+        (λ made. made.0 ≡ project mapping.now arena.now prepared.now) }
+    ensures range { IfOk result (λ made. AreInRange mapping.now.schema made.0) }
+    ensures ready { IfOk result (λ made. AreReady mapping.now.schema made.0 made.1.items) }
+{
+    let schema = mapping.schema();
+    let plain = object_changes(alloc, arena, mapping, prepared)?;
+    let rows = rows_ready(alloc, schema, &plain)?;
+    let new = NewRows {
+        schema,
+        changes: &plain,
+        rows: rows.as_slice(),
+    };
+    match switched_changes(alloc, arena, mapping, &new)? {
+        Some(changes) => {
+            let rows = rows_ready(alloc, schema, &changes)?;
+            Ok((changes, rows))
+        }
+        None => Ok((plain, rows)),
+    }
+}
+
 /// What a flush of a prepared graph changes: what the objects and their links change (`object_changes`), where a key that
 /// passes from a deleted row to a new one makes one changed row of both.
 ///
@@ -158,30 +201,19 @@ fn are_narrow(schema: &Schema) -> bool
 /// it does not hold already. The tables and columns of all rows are declared, so a plan can be made of the changes.
 ///
 /// # Errors
-/// `Memory` alone; it is also told where there are more rows, or more columns of a table, than have numbers.
+/// It is told as for want of memory where there are more rows, or more columns of a table, than have numbers.
 pub fn project(
     alloc: Global,
     arena: &Arena,
     mapping: &Mapping,
     prepared: &Prepared,
-) -> Result<RowChanges, Refusal>
-    requires configured { mapping.now.configured ≡ true }
+) -> Result<RowChanges, AllocError>
     requires fit { IsFit mapping.now arena.now }
     requires made { AreMade arena.now prepared.now }
     ensures changes { IfOk result
         (λ changes. changes ≡ project mapping.now arena.now prepared.now) }
     ensures range { IfOk result (λ changes. AreInRange mapping.now.schema changes) }
-    ensures cause { IfErr result (λ e. e ≡ Memory) }
 {
-    // It is configured, so the relationships have their keys.
-    let _configured = mapping.is_configured();
-    let plain = object_changes(alloc, arena, mapping, prepared)?;
-    if !are_narrow(mapping.schema()) || !are_few(&plain) {
-        return Err(Refusal::Memory);
-    }
-    let changes = with_switches(alloc, arena, mapping, &plain)?;
-    if !are_few(&changes) {
-        return Err(Refusal::Memory);
-    }
+    let (changes, _rows) = project_ready(alloc, arena, mapping, prepared)?;
     Ok(changes)
 }

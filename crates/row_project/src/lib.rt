@@ -4,4 +4,4 @@
 mod changes;
 mod outside;
 
-pub use changes::{object_changes, project};
+pub use changes::{object_changes, project, project_ready};

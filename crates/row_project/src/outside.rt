@@ -1,14 +1,13 @@
 //! The objects outside the session that changed links name.
 
-ghost use Rattle.std.specs.Prelude.{◌≡◌, ◌++◌, ◌∷◌, [], not, true, map, filter, IfOk, IfErr, OnOk};
+ghost use Rattle.std.specs.Prelude.{◌≡◌, ◌++◌, ◌∷◌, [], not, map, filter, IfOk, OnOk};
 ghost use Rattle.std.specs.List.{All, enumerate_from, flat_map};
-ghost use Rattle.base_core.specs.declared.refusal.Refusal.TheVariants.{Memory};
 ghost use Rattle.object_arena.specs.Fit.{IsFit};
 ghost use Rattle.object_arena.specs.Graph.{IsObject};
 ghost use Rattle.object_rows.specs.Seen.{AreNumbers, object_ids as all_ids};
 ghost use Rattle.row_project.specs.Warnings as spec;
 
-use base_core::{ListOf, ObjId, ObjList, Refusal, RelNo, Warning};
+use base_core::{ListOf, ObjId, ObjList, RelNo, Warning};
 use class_layouts::number_of;
 use class_mapping::{Mapping, Relation};
 use object_arena::{Arena, Link};
@@ -16,7 +15,7 @@ use object_rows::{
     Prepared, end_put, is_in_session, is_new_beside, keeps_rows_beside, numbers_of, object_ids,
 };
 use pair_rows::{is_leaving, link_or, members_added, members_removed};
-use std::alloc::Global;
+use std::alloc::{AllocError, Global};
 use std::collections::BTreeSet;
 
 /// The members that were removed and are not to be deleted go behind others, where that takes a pair away.
@@ -26,10 +25,9 @@ fn push_parted(
     prepared: &Prepared,
     relation: &Relation,
     link: &Link,
-) -> Result<(), Refusal>
-    ensures members { OnOk result
+) -> Result<(), AllocError>
+    ensures { OnOk result
         (out.new ≡ out.old ++ spec.parted_named prepared.now relation.now link.now) }
-    ensures cause { IfErr result (λ e. e ≡ Memory) }
 {
     if relation.far.is_none() {
         return Ok(());
@@ -49,10 +47,9 @@ fn members_named(
     prepared: &Prepared,
     relation: &Relation,
     link: &Link,
-) -> Result<ObjList, Refusal>
-    ensures members { IfOk result
+) -> Result<ObjList, AllocError>
+    ensures { IfOk result
         (λ members. members ≡ spec.members_named prepared.now relation.now link.now) }
-    ensures cause { IfErr result (λ e. e ≡ Memory) }
 {
     let mut members = members_added(alloc, link)?;
     push_parted(&mut members, alloc, prepared, relation, link)?;
@@ -60,9 +57,8 @@ fn members_named(
 }
 
 /// The end of a link, where there is one.
-fn end_list(alloc: Global, put: Option<Option<ObjId>>) -> Result<ObjList, Refusal>
-    ensures ends { IfOk result (λ ends. ends ≡ spec.end_list put) }
-    ensures cause { IfErr result (λ e. e ≡ Memory) }
+fn end_list(alloc: Global, put: Option<Option<ObjId>>) -> Result<ObjList, AllocError>
+    ensures { IfOk result (λ ends. ends ≡ spec.end_list put) }
 {
     let mut ends = ListOf::new(alloc);
     if let Some(Some(end)) = put {
@@ -79,11 +75,10 @@ fn named_by(
     object: ObjId,
     number: usize,
     relation: &Relation,
-) -> Result<ObjList, Refusal>
+) -> Result<ObjList, AllocError>
     requires { IsObject arena.now object }
-    ensures named { IfOk result
+    ensures { IfOk result
         (λ named. named ≡ spec.named_by arena.now prepared.now object (number, relation.now)) }
-    ensures cause { IfErr result (λ e. e ≡ Memory) }
 {
     if !relation.many {
         let link = RelNo(number_of(number)?);
@@ -101,10 +96,9 @@ fn outside(
     arena: &Arena,
     prepared: &Prepared,
     objects: &[ObjId],
-) -> Result<Vec<ObjId>, Refusal>
-    ensures outside { IfOk result
+) -> Result<Vec<ObjId>, AllocError>
+    ensures { IfOk result
         (λ outside. outside.items ≡ spec.outside arena.now prepared.now objects.now) }
-    ensures cause { IfErr result (λ e. e ≡ Memory) }
 {
     let mut set = BTreeSet::new(alloc);
     for object in objects {
@@ -124,11 +118,10 @@ fn push_warned_by(
     object: ObjId,
     number: usize,
     relation: &Relation,
-) -> Result<(), Refusal>
+) -> Result<(), AllocError>
     requires { IsObject arena.now object }
-    ensures warnings { OnOk result (out.new ≡ out.old
+    ensures { OnOk result (out.new ≡ out.old
         ++ spec.warned_by arena.now prepared.now object (number, relation.now)) }
-    ensures cause { IfErr result (λ e. e ≡ Memory) }
 {
     let named = named_by(alloc, arena, prepared, object, number, relation)?;
     let outside = outside(alloc, arena, prepared, named.as_slice())?;
@@ -141,10 +134,9 @@ fn push_warnings(
     number: u32,
     relation: &Relation,
     objects: &[ObjId],
-) -> Result<(), Refusal>
-    ensures warnings { OnOk result (out.new ≡ out.old
+) -> Result<(), AllocError>
+    ensures { OnOk result (out.new ≡ out.old
         ++ map (spec.warning_of (number, relation.now)) objects.now) }
-    ensures cause { IfErr result (λ e. e ≡ Memory) }
 {
     for object in objects {
         out.push(Warning {
@@ -165,11 +157,10 @@ fn push_warned_of(
     prepared: &Prepared,
     object: ObjId,
     relations: &[Relation],
-) -> Result<(), Refusal>
+) -> Result<(), AllocError>
     requires { IsObject arena.now object }
-    ensures warnings { OnOk result (out.new ≡ out.old ++ flat_map
+    ensures { OnOk result (out.new ≡ out.old ++ flat_map
         (spec.warned_by arena.now prepared.now object) (enumerate_from 0 relations.now)) }
-    ensures cause { IfErr result (λ e. e ≡ Memory) }
 {
     for (number, relation) in relations.iter().enumerate() {
         push_warned_by(out, alloc, arena, prepared, object, number, relation)?;
@@ -193,10 +184,9 @@ fn is_written(
 }
 
 /// The objects in the session that are not to be deleted.
-fn written_list(alloc: Global, arena: &Arena, prepared: &Prepared) -> Result<Vec<ObjId>, Refusal>
-    ensures objects { IfOk result (λ objects. objects.items
+fn written_list(alloc: Global, arena: &Arena, prepared: &Prepared) -> Result<Vec<ObjId>, AllocError>
+    ensures { IfOk result (λ objects. objects.items
         ≡ filter (spec.is_written arena.now prepared.now) (all_ids arena.now)) }
-    ensures cause { IfErr result (λ e. e ≡ Memory) }
 {
     let transient = numbers_of(alloc, &prepared.transient)?;
     let deleted = numbers_of(alloc, &prepared.deleted)?;
@@ -211,30 +201,30 @@ fn written_list(alloc: Global, arena: &Arena, prepared: &Prepared) -> Result<Vec
 }
 
 /// These objects, which have been made.
-fn written_objects(alloc: Global, arena: &Arena, prepared: &Prepared) -> Result<Vec<ObjId>, Refusal>
+fn written_objects(
+    alloc: Global,
+    arena: &Arena,
+    prepared: &Prepared,
+) -> Result<Vec<ObjId>, AllocError>
     ensures objects { IfOk result (λ objects. objects.items
         ≡ filter (spec.is_written arena.now prepared.now) (all_ids arena.now)) }
     ensures made { IfOk result (λ objects. All (IsObject arena.now) objects.items) }
-    ensures cause { IfErr result (λ e. e ≡ Memory) }
 {
     let objects = written_list(alloc, arena, prepared)?;
     Ok(objects)
 }
 
 #[tactic(auto, using(class_layouts::proofs::Steps::steps, object_arena::proofs::FitLemmas::fit_class), unfolding(crate::specs::Warnings::warnings))]
-/// The objects outside the session that a flush meets in changed links and skips, by owner, relationship and member. The
-/// only refusal is `Memory`.
+/// The objects outside the session that a flush meets in changed links and skips, by owner, relationship and member.
 pub(crate) fn warnings(
     alloc: Global,
     arena: &Arena,
     mapping: &Mapping,
     prepared: &Prepared,
-) -> Result<ListOf<Warning>, Refusal>
-    requires configured { mapping.now.configured ≡ true }
+) -> Result<ListOf<Warning>, AllocError>
     requires fit { IsFit mapping.now arena.now }
-    ensures warnings { IfOk result
+    ensures { IfOk result
         (λ warnings. warnings ≡ spec.warnings mapping.now arena.now prepared.now) }
-    ensures cause { IfErr result (λ e. e ≡ Memory) }
 {
     let objects = written_objects(alloc, arena, prepared)?;
     let mut warnings = ListOf::new(alloc);

@@ -1,14 +1,13 @@
 -- When it is known which rows of changes are switched.
-use Rattle.std.specs.Prelude.{◌≡◌, true}
+use Rattle.std.specs.Prelude.{◌≡◌}
 use Rattle.object_arena.specs.Fit.{IsFit}
 use Rattle.flush_order.specs.Ready.{AreInRange, AreReady}
 use Rattle.row_switches.specs.declared.cells.Switch.{Switch}
 use Rattle.row_partners.specs.Partners.{partners}
 use Rattle.row_switches.specs.Switch.{numbers_from}
 
--- the mapping is configured, the objects fit it, the new rows are made ready, and the partners and numbers are those of the changes
+-- the objects fit the mapping, the new rows are made ready, and the partners and numbers are those of the changes
 pub record IsSwitch (switch : Switch) : Type 0 where
-  pub configured : switch.mapping.now.configured ≡ true
   pub fit : IsFit switch.mapping.now switch.arena.now
   pub schema : switch.new.now.schema.now ≡ switch.mapping.now.schema
   pub range : AreInRange switch.new.now.schema.now switch.new.now.changes.now

@@ -136,3 +136,7 @@ changes_by mapped graph changes partners = record {
 -- changes with their switched rows
 abbrev pub with_switches : Mapped → Graph → RowChanges → RowChanges
 with_switches mapped graph changes = changes_by mapped graph changes (partners mapped.schema changes)
+
+-- the same where some row is switched
+abbrev pub switched_changes : Mapped → Graph → RowChanges → Option RowChanges
+switched_changes mapped graph changes = if list_any is_some (partners mapped.schema changes) then Some (with_switches mapped graph changes) else None

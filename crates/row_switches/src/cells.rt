@@ -1,18 +1,17 @@
 //! What becomes of cells that name the keys of new rows.
 
-ghost use Rattle.std.specs.Prelude.{◌≡◌, ◌++◌, ◌∷◌, [], true, slice_index_or, map, None, IfOk, IfErr, OnOk};
-ghost use Rattle.base_core.specs.declared.refusal.Refusal.TheVariants.{Memory};
+ghost use Rattle.std.specs.Prelude.{◌≡◌, ◌++◌, ◌∷◌, [], true, slice_index_or, map, None, IfOk, OnOk};
 ghost use Rattle.row_switches.specs.Ready.{IsSwitch};
 ghost use Rattle.row_switches.specs.Switch as spec;
 
-use base_core::{Copied, ListOf, Refusal};
+use base_core::{Copied, ListOf};
 use class_layouts::number_of;
 use class_mapping::Mapping;
 use flush_order::NewRows;
 use object_arena::Arena;
 use object_rows::part_of_key;
 use schema_core::RowCell;
-use std::alloc::Global;
+use std::alloc::{AllocError, Global};
 
 /// Changes of which it is known which rows are switched.
 #[derive(Drop)]
@@ -27,9 +26,11 @@ pub(crate) struct Switch<'a> {
 }
 
 /// For each new row how many before it stay new.
-pub(crate) fn numbers_among(alloc: Global, partners: &[Option<usize>]) -> Result<Vec<u32>, Refusal>
-    ensures numbers { IfOk result (λ numbers. numbers.items ≡ spec.numbers_from 0 partners.now) }
-    ensures cause { IfErr result (λ e. e ≡ Memory) }
+pub(crate) fn numbers_among(
+    alloc: Global,
+    partners: &[Option<usize>],
+) -> Result<Vec<u32>, AllocError>
+    ensures { IfOk result (λ numbers. numbers.items ≡ spec.numbers_from 0 partners.now) }
 {
     let mut numbers = Vec::new(alloc);
     let mut count = 0;
@@ -65,12 +66,11 @@ impl<'a> Switch<'a> {
 
     #[tactic(auto, using(crate::proofs::SwitchSteps::within_steps))]
     /// A part of the key of the new row at a place: the value, where it is switched.
-    fn key_cell(&self, place: u32, part: u32) -> Result<RowCell, Refusal>
+    fn key_cell(&self, place: u32, part: u32) -> Result<RowCell, AllocError>
         requires { IsSwitch self.now }
-        ensures cell { IfOk result (λ cell. cell ≡ spec.key_cell self.now.new.now.schema.now
+        ensures { IfOk result (λ cell. cell ≡ spec.key_cell self.now.new.now.schema.now
             self.now.new.now.changes.now self.now.partners.now place part
             (slice_index_or self.now.partners.now place None)) }
-        ensures cause { IfErr result (λ e. e ≡ Memory) }
     {
         match self.partner_of(place as usize) {
             Some(_gone) => Ok(RowCell::Given(part_of_key(&self.new.at(place).key, part)?)),
@@ -79,11 +79,10 @@ impl<'a> Switch<'a> {
     }
 
     /// A cell, where the key of a switched row is a value and rows that stay new are counted alone.
-    pub(crate) fn cell_after_switch(&self, cell: &RowCell) -> Result<RowCell, Refusal>
+    pub(crate) fn cell_after_switch(&self, cell: &RowCell) -> Result<RowCell, AllocError>
         requires { IsSwitch self.now }
-        ensures cell { IfOk result (λ after. after ≡ spec.cell_after_switch
+        ensures { IfOk result (λ after. after ≡ spec.cell_after_switch
             self.now.new.now.schema.now self.now.new.now.changes.now self.now.partners.now cell.now) }
-        ensures cause { IfErr result (λ e. e ≡ Memory) }
     {
         match cell {
             RowCell::Given(value) => Ok(RowCell::Given(value.copied()?)),
@@ -96,11 +95,10 @@ impl<'a> Switch<'a> {
         &self,
         alloc: Global,
         cells: &[RowCell],
-    ) -> Result<ListOf<RowCell>, Refusal>
+    ) -> Result<ListOf<RowCell>, AllocError>
         requires { IsSwitch self.now }
-        ensures cells { IfOk result (λ after. after ≡ map (spec.cell_after_switch
+        ensures { IfOk result (λ after. after ≡ map (spec.cell_after_switch
             self.now.new.now.schema.now self.now.new.now.changes.now self.now.partners.now) cells.now) }
-        ensures cause { IfErr result (λ e. e ≡ Memory) }
     {
         let mut after = ListOf::new(alloc);
         for cell in cells {

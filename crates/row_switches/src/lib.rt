@@ -3,9 +3,7 @@
 
 mod cells;
 mod changes;
-mod joined;
 mod staying;
 mod switched;
 
-pub use changes::with_switches;
-pub use joined::both;
+pub use changes::switched_changes;

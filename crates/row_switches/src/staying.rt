@@ -1,8 +1,7 @@
 //! The new, changed and deleted rows that are not switched.
 
-ghost use Rattle.std.specs.Prelude.{◌≡◌, ◌<◌, ◌++◌, ◌∷◌, ◌||◌, ℕ, [], false, filter, length, map, slice_index_or, IfOk, IfErr, IfSome, OnOk, if◌then◌else◌};
+ghost use Rattle.std.specs.Prelude.{◌≡◌, ◌<◌, ◌++◌, ◌∷◌, ◌||◌, ℕ, [], false, filter, length, map, slice_index_or, IfOk, IfSome, OnOk, if◌then◌else◌};
 ghost use Rattle.std.specs.List.{filter_map, list_any};
-ghost use Rattle.base_core.specs.declared.refusal.Refusal.TheVariants.{Memory};
 ghost use Rattle.std.specs.Option.{option_copied};
 ghost use Rattle.class_mapping.specs.Mapped.{IsClass};
 ghost use Rattle.object_rows.specs.Rows.{has_cells, linked_change};
@@ -10,12 +9,12 @@ ghost use Rattle.row_switches.specs.Ready.{IsSwitch};
 ghost use Rattle.row_switches.specs.Switch as spec;
 
 use crate::cells::Switch;
-use base_core::{ColumnNo, Copied, ListOf, ObjId, Refusal, TableId};
+use base_core::{ColumnNo, Copied, ListOf, ObjId, TableId};
 use object_arena::{Cell, Object};
 use object_rows::linked_change;
 use object_writes::cell_for;
 use schema_core::{ChangedRow, GoneRow, NewRow, RowCell, RowChanges};
-use std::alloc::Global;
+use std::alloc::{AllocError, Global};
 
 /// Cells, each with its column.
 pub(crate) type Cells = ListOf<(ColumnNo, RowCell)>;
@@ -28,12 +27,11 @@ impl<'a> Switch<'a> {
         alloc: Global,
         place: usize,
         row: &NewRow,
-    ) -> Result<(), Refusal>
+    ) -> Result<(), AllocError>
         requires { IsSwitch self.now }
-        ensures row { OnOk result (out.new ≡ out.old ++ filter_map (spec.row_staying
+        ensures { OnOk result (out.new ≡ out.old ++ filter_map (spec.row_staying
             self.now.new.now.schema.now self.now.new.now.changes.now self.now.partners.now)
             ((place, row.now) ∷ [])) }
-        ensures cause { IfErr result (λ e. e ≡ Memory) }
     {
         if self.partner_of(place).is_some() {
             return Ok(());
@@ -47,11 +45,10 @@ impl<'a> Switch<'a> {
 
     #[tactic(auto, using(class_layouts::proofs::Steps::steps))]
     /// The new rows that are not switched.
-    pub(crate) fn rows_staying(&self, alloc: Global) -> Result<ListOf<NewRow>, Refusal>
+    pub(crate) fn rows_staying(&self, alloc: Global) -> Result<ListOf<NewRow>, AllocError>
         requires { IsSwitch self.now }
-        ensures rows { IfOk result (λ rows. rows ≡ spec.rows_staying self.now.new.now.schema.now
+        ensures { IfOk result (λ rows. rows ≡ spec.rows_staying self.now.new.now.schema.now
             self.now.new.now.changes.now self.now.partners.now) }
-        ensures cause { IfErr result (λ e. e ≡ Memory) }
     {
         let fresh = self.new.changes.fresh.as_slice();
         let mut rows = ListOf::new(alloc);
@@ -88,12 +85,11 @@ impl<'a> Switch<'a> {
     }
 
     /// A cell after the switches, unless a cell of an object is known to be so already.
-    fn change_from(&self, own: Option<&Cell>, cell: &RowCell) -> Result<Option<RowCell>, Refusal>
+    fn change_from(&self, own: Option<&Cell>, cell: &RowCell) -> Result<Option<RowCell>, AllocError>
         requires { IsSwitch self.now }
-        ensures change { IfOk result (λ change. change ≡ linked_change
+        ensures { IfOk result (λ change. change ≡ linked_change
             (spec.base_of (option_copied own.entry)) (spec.cell_after_switch self.now.new.now.schema.now
             self.now.new.now.changes.now self.now.partners.now cell.now)) }
-        ensures cause { IfErr result (λ e. e ≡ Memory) }
     {
         let after = self.cell_after_switch(cell)?;
         match own {
@@ -108,12 +104,11 @@ impl<'a> Switch<'a> {
         out: &mut Cells,
         row: &ChangedRow,
         cell: &(ColumnNo, RowCell),
-    ) -> Result<(), Refusal>
+    ) -> Result<(), AllocError>
         requires { IsSwitch self.now }
-        ensures cell { OnOk result (out.new ≡ out.old ++ filter_map (spec.cell_kept
+        ensures { OnOk result (out.new ≡ out.old ++ filter_map (spec.cell_kept
             self.now.mapping.now self.now.arena.now self.now.new.now.changes.now
             self.now.partners.now row.now) (cell.now ∷ [])) }
-        ensures cause { IfErr result (λ e. e ≡ Memory) }
     {
         let own = self.cell_in(row.name.object, row.name.table, cell.0.0 as usize);
         match self.change_from(own, &cell.1)? {
@@ -123,11 +118,10 @@ impl<'a> Switch<'a> {
     }
 
     /// A changed row with the cells that it does not hold already.
-    fn row_kept(&self, alloc: Global, row: &ChangedRow) -> Result<ChangedRow, Refusal>
+    fn row_kept(&self, alloc: Global, row: &ChangedRow) -> Result<ChangedRow, AllocError>
         requires { IsSwitch self.now }
-        ensures row { IfOk result (λ kept. kept ≡ spec.row_kept self.now.mapping.now
+        ensures { IfOk result (λ kept. kept ≡ spec.row_kept self.now.mapping.now
             self.now.arena.now self.now.new.now.changes.now self.now.partners.now row.now) }
-        ensures cause { IfErr result (λ e. e ≡ Memory) }
     {
         let mut cells = ListOf::new(alloc);
         for cell in row.cells.as_slice() {
@@ -146,12 +140,11 @@ impl<'a> Switch<'a> {
         out: &mut ListOf<ChangedRow>,
         alloc: Global,
         row: &ChangedRow,
-    ) -> Result<(), Refusal>
+    ) -> Result<(), AllocError>
         requires { IsSwitch self.now }
-        ensures row { OnOk result (out.new ≡ out.old ++ filter has_cells (map (spec.row_kept
+        ensures { OnOk result (out.new ≡ out.old ++ filter has_cells (map (spec.row_kept
             self.now.mapping.now self.now.arena.now self.now.new.now.changes.now
             self.now.partners.now) (row.now ∷ []))) }
-        ensures cause { IfErr result (λ e. e ≡ Memory) }
     {
         let kept = self.row_kept(alloc, row)?;
         if kept.cells.is_empty() {
@@ -161,11 +154,10 @@ impl<'a> Switch<'a> {
     }
 
     /// The changed rows of which a cell is left.
-    pub(crate) fn rows_kept(&self, alloc: Global) -> Result<ListOf<ChangedRow>, Refusal>
+    pub(crate) fn rows_kept(&self, alloc: Global) -> Result<ListOf<ChangedRow>, AllocError>
         requires { IsSwitch self.now }
-        ensures rows { IfOk result (λ rows. rows ≡ spec.rows_kept self.now.mapping.now
+        ensures { IfOk result (λ rows. rows ≡ spec.rows_kept self.now.mapping.now
             self.now.arena.now self.now.new.now.changes.now self.now.partners.now) }
-        ensures cause { IfErr result (λ e. e ≡ Memory) }
     {
         let mut rows = ListOf::new(alloc);
         for row in self.new.changes.changed.as_slice() {
@@ -176,11 +168,14 @@ impl<'a> Switch<'a> {
 }
 
 /// For each deleted row of these whether it is switched.
-fn marks_of(alloc: Global, count: usize, partners: &[Option<usize>]) -> Result<Vec<bool>, Refusal>
+fn marks_of(
+    alloc: Global,
+    count: usize,
+    partners: &[Option<usize>],
+) -> Result<Vec<bool>, AllocError>
     ensures long { IfOk result (λ marks. length marks.items ≡ count) }
     ensures marks { IfOk result (λ marks. (number : ℕ) → number < count
         → slice_index_or marks.items number false ≡ list_any (spec.is_number number) partners.now) }
-    ensures cause { IfErr result (λ e. e ≡ Memory) }
 {
     let mut marks = Vec::new(alloc);
     for _number in 0..count {
@@ -207,9 +202,8 @@ fn mark(marks: &mut Vec<bool>, partner: Option<usize>)
 }
 
 /// A deleted row goes behind others, unless it is switched.
-fn push_left(out: &mut ListOf<GoneRow>, is_switched: bool, row: &GoneRow) -> Result<(), Refusal>
-    ensures row { OnOk result (out.new ≡ out.old ++ (if is_switched then [] else row.now ∷ [])) }
-    ensures cause { IfErr result (λ e. e ≡ Memory) }
+fn push_left(out: &mut ListOf<GoneRow>, is_switched: bool, row: &GoneRow) -> Result<(), AllocError>
+    ensures { OnOk result (out.new ≡ out.old ++ (if is_switched then [] else row.now ∷ [])) }
 {
     if is_switched {
         return Ok(());
@@ -222,9 +216,8 @@ pub(crate) fn rows_left(
     alloc: Global,
     changes: &RowChanges,
     partners: &[Option<usize>],
-) -> Result<ListOf<GoneRow>, Refusal>
-    ensures rows { IfOk result (λ rows. rows ≡ spec.rows_left changes.now partners.now) }
-    ensures cause { IfErr result (λ e. e ≡ Memory) }
+) -> Result<ListOf<GoneRow>, AllocError>
+    ensures { IfOk result (λ rows. rows ≡ spec.rows_left changes.now partners.now) }
 {
     let gone = changes.gone.as_slice();
     let marks = marks_of(alloc, gone.len(), partners)?;

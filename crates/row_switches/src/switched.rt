@@ -1,8 +1,7 @@
 //! The rows that are switched.
 
-ghost use Rattle.std.specs.Prelude.{◌≡◌, ◌++◌, ◌∷◌, ◌<◌, [], length, slice_index_or, Some, IfOk, IfErr, OnOk};
+ghost use Rattle.std.specs.Prelude.{◌≡◌, ◌++◌, ◌∷◌, ◌<◌, [], length, slice_index_or, Some, IfOk, OnOk};
 ghost use Rattle.std.specs.List.{filter_map};
-ghost use Rattle.base_core.specs.declared.refusal.Refusal.TheVariants.{Memory};
 ghost use Rattle.base_core.specs.declared.value.Value.TheVariants.{Null};
 ghost use Rattle.schema_core.specs.DependencyOrder.{is_among};
 ghost use Rattle.schema_core.specs.declared.changes.RowCell.TheVariants.{Given};
@@ -13,12 +12,12 @@ ghost use Rattle.row_switches.specs.Switch as spec;
 
 use crate::cells::Switch;
 use crate::staying::Cells;
-use base_core::{ColumnNo, Copied, ListOf, Refusal, TableId, Value};
+use base_core::{ColumnNo, Copied, ListOf, TableId, Value};
 use class_layouts::number_of;
 use object_rows::{linked_change, part_of_key};
 use object_writes::{cell_for, columns_at};
 use schema_core::{ChangedRow, ColumnSpec, GoneRow, NewRow, RowCell};
-use std::alloc::Global;
+use std::alloc::{AllocError, Global};
 
 /// Whether a table is one of these.
 fn is_among(tables: &[TableId], table: TableId) -> bool
@@ -48,11 +47,10 @@ impl<'a> Switch<'a> {
     }
 
     /// What a deleted row is known to hold in a column.
-    fn value_gone(&self, row: &GoneRow, column: usize) -> Result<Option<Value>, Refusal>
+    fn value_gone(&self, row: &GoneRow, column: usize) -> Result<Option<Value>, AllocError>
         requires { IsSwitch self.now }
-        ensures value { IfOk result (λ value. value ≡ spec.value_gone self.now.mapping.now
+        ensures { IfOk result (λ value. value ≡ spec.value_gone self.now.mapping.now
             self.now.arena.now row.now column) }
-        ensures cause { IfErr result (λ e. e ≡ Memory) }
     {
         if self.is_unread(row, column) {
             return Ok(None);
@@ -62,12 +60,11 @@ impl<'a> Switch<'a> {
     }
 
     /// The cell of a new row in a column, after the switches; NULL where it has none.
-    fn new_cell_at(&self, row: &NewRow, column: usize) -> Result<RowCell, Refusal>
+    fn new_cell_at(&self, row: &NewRow, column: usize) -> Result<RowCell, AllocError>
         requires { IsSwitch self.now }
-        ensures cell { IfOk result (λ cell. cell ≡ spec.cell_after_switch self.now.new.now.schema.now
+        ensures { IfOk result (λ cell. cell ≡ spec.cell_after_switch self.now.new.now.schema.now
             self.now.new.now.changes.now self.now.partners.now
             (slice_index_or row.now.cells column (Given Null))) }
-        ensures cause { IfErr result (λ e. e ≡ Memory) }
     {
         match row.cells.get(column) {
             Some(cell) => self.cell_after_switch(cell),
@@ -81,13 +78,12 @@ impl<'a> Switch<'a> {
         row: &NewRow,
         gone: &GoneRow,
         number: usize,
-    ) -> Result<Option<RowCell>, Refusal>
+    ) -> Result<Option<RowCell>, AllocError>
         requires { IsSwitch self.now }
-        ensures change { IfOk result (λ change. change ≡ linked_change
+        ensures { IfOk result (λ change. change ≡ linked_change
             (spec.value_gone self.now.mapping.now self.now.arena.now gone.now number)
             (spec.cell_after_switch self.now.new.now.schema.now self.now.new.now.changes.now
             self.now.partners.now (slice_index_or row.now.cells number (Given Null)))) }
-        ensures cause { IfErr result (λ e. e ≡ Memory) }
     {
         let cell = self.new_cell_at(row, number)?;
         let base = self.value_gone(gone, number)?;
@@ -102,12 +98,11 @@ impl<'a> Switch<'a> {
         gone: &GoneRow,
         number: usize,
         column: &ColumnSpec,
-    ) -> Result<(), Refusal>
+    ) -> Result<(), AllocError>
         requires { IsSwitch self.now }
-        ensures cell { OnOk result (out.new ≡ out.old ++ filter_map (spec.cell_switched
+        ensures { OnOk result (out.new ≡ out.old ++ filter_map (spec.cell_switched
             self.now.mapping.now self.now.arena.now self.now.new.now.changes.now
             self.now.partners.now row.now gone.now) ((number, column.now) ∷ [])) }
-        ensures cause { IfErr result (λ e. e ≡ Memory) }
     {
         if column.key {
             return Ok(());
@@ -127,13 +122,12 @@ impl<'a> Switch<'a> {
         place: usize,
         row: &NewRow,
         gone: &GoneRow,
-    ) -> Result<ChangedRow, Refusal>
+    ) -> Result<ChangedRow, AllocError>
         requires switch { IsSwitch self.now }
         requires within { place < length self.now.new.now.rows.now }
-        ensures row { IfOk result (λ switched. switched ≡ spec.row_switched self.now.mapping.now
+        ensures { IfOk result (λ switched. switched ≡ spec.row_switched self.now.mapping.now
             self.now.arena.now self.now.new.now.changes.now self.now.partners.now
             (place, row.now) gone.now) }
-        ensures cause { IfErr result (λ e. e ≡ Memory) }
     {
         let columns = columns_at(self.mapping, row.name.table);
         let mut cells = ListOf::new(alloc);
@@ -156,12 +150,11 @@ impl<'a> Switch<'a> {
         alloc: Global,
         place: usize,
         row: &NewRow,
-    ) -> Result<(), Refusal>
+    ) -> Result<(), AllocError>
         requires { IsSwitch self.now }
-        ensures row { OnOk result (out.new ≡ out.old ++ filter_map (spec.switch_of
+        ensures { OnOk result (out.new ≡ out.old ++ filter_map (spec.switch_of
             self.now.mapping.now self.now.arena.now self.now.new.now.changes.now
             self.now.partners.now) ((place, row.now) ∷ [])) }
-        ensures cause { IfErr result (λ e. e ≡ Memory) }
     {
         match self.partner_of(place) {
             None => Ok(()),
@@ -178,11 +171,10 @@ impl<'a> Switch<'a> {
         &self,
         out: &mut ListOf<ChangedRow>,
         alloc: Global,
-    ) -> Result<(), Refusal>
+    ) -> Result<(), AllocError>
         requires { IsSwitch self.now }
-        ensures rows { OnOk result (out.new ≡ out.old ++ spec.rows_switched self.now.mapping.now
+        ensures { OnOk result (out.new ≡ out.old ++ spec.rows_switched self.now.mapping.now
             self.now.arena.now self.now.new.now.changes.now self.now.partners.now) }
-        ensures cause { IfErr result (λ e. e ≡ Memory) }
     {
         let fresh = self.new.changes.fresh.as_slice();
         for (place, row) in fresh.iter().enumerate() {

@@ -14,7 +14,7 @@ use crate::scope::{Scope, begun_at};
 use crate::traces::{Trace, pad, pass_outward, trace_of};
 use base_core::{LimitKind, ObjId, Refusal};
 use object_arena::{Arena, Object, State};
-use std::alloc::Global;
+use std::alloc::{AllocError, Global};
 use std::marker::Model;
 
 /// How many scopes there are at most: the transaction and 64 savepoints.
@@ -86,6 +86,19 @@ impl Frames {
         if self.scopes.len() >= SCOPE_LIMIT {
             return Err(Refusal::LimitReached(LimitKind::Savepoints));
         }
+        Ok(self.start(arena)?)
+    }
+
+    /// One more scope starts where there is room for it, with the objects as they stand now. Where memory runs out nothing changes.
+    pub fn start(&mut self, arena: &Arena) -> Result<(), AllocError>
+        requires room { length self.old.scopes < spec.scope_limit }
+        ensures ok { OnOk result
+            (self.new ≡ record self.old { scopes = spec.begun_at arena.now ∷ self.old.scopes }) }
+        ensures err { OnErr result (self.new ≡ self.old) }
+        ensures keys { (mapped : Mapped) → IsFit mapped arena.now
+            → All (spec.HasKeys mapped arena.now) self.old.scopes
+            → All (spec.HasKeys mapped arena.now) self.new.scopes }
+    {
         let scope = begun_at(self.alloc, arena)?;
         self.scopes.insert(0, scope)?;
         Ok(())
@@ -95,11 +108,10 @@ impl Frames {
     /// is persistent, a load made it. Where no scope is in progress nothing happens. The only refusal is out of memory, and
     /// it changes nothing.
     #[tactic(auto, using(crate::proofs::TraceLemmas::touch_is), unfolding(crate::specs::Scopes::touch))]
-    pub fn touch(&mut self, arena: &Arena, object: ObjId) -> Result<(), Refusal>
+    pub fn touch(&mut self, arena: &Arena, object: ObjId) -> Result<(), AllocError>
         requires { IsObject arena.now object }
         ensures ok { OnOk result (self.new ≡ spec.touch arena.now object self.old) }
         ensures err { OnErr result (self.new ≡ self.old) }
-        ensures cause { IfErr result (λ e. e ≡ Memory) }
     {
         if self.scopes.is_empty() {
             return Ok(());

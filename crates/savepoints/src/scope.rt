@@ -1,13 +1,12 @@
 //! What is kept of a scope.
 
-ghost use Rattle.std.specs.Prelude.{◌≡◌, ◌≢◌, ◌<◌, ℕ, IfOk, IfErr, length, slice_set};
+ghost use Rattle.std.specs.Prelude.{◌≡◌, ◌≢◌, ◌<◌, ℕ, IfOk, length, slice_set};
 ghost use Rattle.std.specs.List.{All};
-ghost use Rattle.base_core.specs.declared.refusal.Refusal.TheVariants.{Memory};
 ghost use Rattle.class_mapping.specs.Mapped.{Mapped};
 ghost use Rattle.object_arena.specs.Fit.{IsFit};
 ghost use Rattle.savepoints.specs.Scopes as spec;
 
-use base_core::{Key, ListOf, ObjId, Refusal};
+use base_core::{Key, ListOf, ObjId};
 use object_arena::{Arena, Object, State};
 use std::alloc::{AllocError, Global};
 
@@ -45,13 +44,12 @@ fn standing_of(object: &Object) -> Result<Standing, AllocError>
 }
 
 /// A scope that begins with the objects as they stand now. The only refusal is out of memory.
-pub(crate) fn begun_at(alloc: Global, arena: &Arena) -> Result<Scope, Refusal>
+pub(crate) fn begun_at(alloc: Global, arena: &Arena) -> Result<Scope, AllocError>
     ensures scope { IfOk result (λ scope. scope ≡ spec.begun_at arena.now) }
     ensures sound { IfOk result (λ scope. All spec.IsStanding scope.standings) }
     ensures keys { IfOk result
         (λ scope. (mapped : Mapped) → IsFit mapped arena.now
         → spec.HasKeys mapped arena.now scope) }
-    ensures cause { IfErr result (λ e. e ≡ Memory) }
 {
     let mut standings = ListOf::new(alloc);
     for number in 0..arena.count() {

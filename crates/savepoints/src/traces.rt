@@ -1,10 +1,9 @@
 //! What is kept of each object while scopes are in progress.
 
-ghost use Rattle.std.specs.Prelude.{◌≡◌, ◌<◌, ◌++◌, ℕ, length, take, map, IfErr, OnOk, OnErr, vec_len};
-ghost use Rattle.base_core.specs.declared.refusal.Refusal.TheVariants.{Memory};
+ghost use Rattle.std.specs.Prelude.{◌≡◌, ◌<◌, ◌++◌, ℕ, length, take, map, OnOk, OnErr, vec_len};
 ghost use Rattle.savepoints.specs.Scopes as spec;
 
-use base_core::Refusal;
+use std::alloc::AllocError;
 
 /// In how deep a scope an object was touched, 0 where it was touched in none, and whether a load made it since the
 /// transaction began.
@@ -35,10 +34,9 @@ pub(crate) fn trace_of(traces: &[Trace], place: usize) -> Trace
 }
 
 /// There are traces up to a place. The only refusal is out of memory, and it changes nothing.
-pub(crate) fn pad(traces: &mut Vec<Trace>, place: u32) -> Result<(), Refusal>
+pub(crate) fn pad(traces: &mut Vec<Trace>, place: u32) -> Result<(), AllocError>
     ensures ok { OnOk result (traces.new.items ≡ spec.padded_traces traces.old.items place) }
     ensures err { OnErr result (traces.new.items ≡ traces.old.items) }
-    ensures cause { IfErr result (λ e. e ≡ Memory) }
 {
     let before = traces.len();
     if let Err(refusal) = grow(traces, place) {
@@ -50,10 +48,9 @@ pub(crate) fn pad(traces: &mut Vec<Trace>, place: u32) -> Result<(), Refusal>
 
 #[tactic(auto, using(crate::proofs::TraceLemmas::grows))]
 /// There are traces up to a place. The only refusal is out of memory.
-fn grow(traces: &mut Vec<Trace>, place: u32) -> Result<(), Refusal>
+fn grow(traces: &mut Vec<Trace>, place: u32) -> Result<(), AllocError>
     ensures ok { OnOk result (traces.new.items ≡ spec.padded_traces traces.old.items place) }
     ensures kept { take (length traces.old.items) traces.new.items ≡ traces.old.items }
-    ensures cause { IfErr result (λ e. e ≡ Memory) }
 {
     let missing = (place as usize + 1).saturating_sub(traces.len());
     for _added in 0..missing {

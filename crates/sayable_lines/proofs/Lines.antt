@@ -1,12 +1,13 @@
 -- What is read of a line, lines can say.
 use Rattle.std.proofs.Common.{◌≡◌, ℕ, Bool, true, false, ◌||◌, if◌then◌else◌, List, Option, Some, None, Result, Ok, Err, subst}
 use Rattle.std.specs.Prelude.{IfOk}
+use Rattle.base_core.specs.Answers.{Gives}
 use Rattle.base_core.specs.declared.refusal.Refusal.{Refusal}
 use Rattle.base_core.specs.declared.value.Value.{Value}
 use Rattle.script_types.specs.declared.command.Command.{Command}
 use Rattle.script_types.specs.declared.command.Command.TheVariants as c
-use Rattle.script_types.specs.declared.command.Dialect.{Dialect}
-use Rattle.script_types.specs.declared.command.Dialect.TheVariants.{Sqlite, Postgresql, Mysql}
+use Rattle.base_core.specs.declared.dialect.Dialect.{Dialect}
+use Rattle.base_core.specs.declared.dialect.Dialect.TheVariants.{Sqlite, Postgresql, Mysql}
 use Rattle.script_types.specs.declared.command.Inside.{Inside}
 use Rattle.script_types.specs.declared.command.Inside.TheVariants.{Top, Table, Class}
 use Rattle.script_types.specs.declared.command.Term.{Term}
@@ -323,7 +324,7 @@ pub read_is_sayable : (bytes : List ℕ) (number : ℕ) (inside : Inside) (comma
 read_is_sayable bytes number inside command e = subst (λ (r : Result Command Refusal). IfOk r IsSayable) e (line_is_sayable bytes number inside)
 
 -- of what a call gives
-pub given_is_sayable : (bytes : List ℕ) (number : ℕ) (inside : Inside) (r : Result Command Refusal) → line.Gives (line.line bytes number inside) r → IfOk r IsSayable
+pub given_is_sayable : (bytes : List ℕ) (number : ℕ) (inside : Inside) (r : Result Command Refusal) → Gives (λ (command : Command). command) r (line.line bytes number inside) → IfOk r IsSayable
 given_is_sayable bytes number inside (Ok command) e = read_is_sayable bytes number inside command e
 given_is_sayable bytes number inside (Err e) told = tt
 

@@ -3,7 +3,8 @@
 //! is plain and a bulk statement fits its table, with nothing else to suppose.
 #![tactic(auto)]
 
-ghost use Rattle.std.specs.Prelude.{IfOk};
+ghost use Rattle.std.specs.Prelude.{IfErr, IfOk};
+ghost use Rattle.base_core.specs.Answers.{Gives};
 ghost use Rattle.sayable_lines.specs.Sayable.{BulksOfLinesFit, IsSayable, SelectsOfLinesAnswerAsWritten, SelectsOfLinesArePlain};
 ghost use Rattle.script_read.specs.Line as spec;
 
@@ -23,7 +24,8 @@ pub fn read_line(
     number: u32,
     inside: Inside,
 ) -> Result<Command, Refusal>
-    ensures answer { spec.Gives (spec.line line.now number inside) result }
+    ensures command { Gives (λ command. command) result (spec.line line.now number inside) }
+    ensures cause { IfErr result spec.IsOfReading }
     ensures sayable { IfOk result IsSayable }
 {
     script_read::read_line(alloc, line, number, inside)

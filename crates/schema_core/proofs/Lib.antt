@@ -9,3 +9,4 @@ pub mod Steps
 pub mod TableOrder
 pub mod Targets
 pub mod Violations
+pub mod WellFormedTests

@@ -7,3 +7,4 @@ pub mod Refusals
 pub mod Tables
 pub mod Told
 pub mod WellFormed
+pub mod WellFormedTest

@@ -30,7 +30,7 @@ pub fn is_required(column: &ColumnSpec) -> bool
 }
 
 /// Whether a value is of a column's kind, or NULL where the column takes it.
-fn fits(column: &ColumnSpec, value: &Value) -> bool
+pub(crate) fn fits(column: &ColumnSpec, value: &Value) -> bool
     ensures { result ≡ fits column.now value.now }
 {
     match kind_of_value(value) {

@@ -1,15 +1,14 @@
 //! The order in which tables are created.
 
-ghost use Rattle.std.specs.Prelude.{◌≡◌, ◌<◌, ◌==◌, ◌++◌, length, true, IfOk, IfErr, OnOk};
+ghost use Rattle.std.specs.Prelude.{◌≡◌, ◌<◌, ◌==◌, ◌++◌, length, true, IfOk, OnOk};
 ghost use Rattle.std.specs.List.{list_any, list_all};
 ghost use Rattle.std.specs.Option.{option_to_list};
-ghost use Rattle.base_core.specs.declared.refusal.Refusal.TheVariants.{Memory};
 ghost use Rattle.schema_core.specs.Catalog.{target_of, IsTable};
 ghost use Rattle.schema_core.specs.DependencyOrder.{is_among, is_settled, is_ready, least_left, next_table, and_next, dependency_order};
 
 use crate::{ForeignSpec, Schema};
-use base_core::{Refusal, TableId};
-use std::alloc::Global;
+use base_core::TableId;
+use std::alloc::{AllocError, Global};
 
 /// Whether the table is one of these.
 fn is_among(placed: &[TableId], table: TableId) -> bool
@@ -80,10 +79,9 @@ impl Schema {
         }
     }
 
-    /// The table that comes after these goes to their end, if there is one. The only refusal is `Memory`.
-    fn place_next(&self, placed: &mut Vec<TableId>) -> Result<(), Refusal>
+    /// The table that comes after these goes to their end, if there is one.
+    fn place_next(&self, placed: &mut Vec<TableId>) -> Result<(), AllocError>
         ensures placed { OnOk result (placed.new.items ≡ and_next self.now placed.old.items) }
-        ensures cause { IfErr result (λ e. e ≡ Memory) }
     {
         match self.next_table(placed.as_slice()) {
             Some(table) => {
@@ -95,12 +93,11 @@ impl Schema {
     }
 
     #[tactic(auto, using(crate::proofs::Placing::order_steps), unfolding(crate::specs::DependencyOrder::dependency_order))]
-    /// All tables in the order of creation: each time the least declared table whose other targets are placed, and where
-    /// none is ready the least one left. The only refusal is `Memory`.
-    pub fn tables_in_order(&self, alloc: Global) -> Result<Vec<TableId>, Refusal>
+    /// All tables in the order of creation: each time the least declared table whose other targets are placed, and where none
+    /// is ready the least one left.
+    pub fn tables_in_order(&self, alloc: Global) -> Result<Vec<TableId>, AllocError>
         requires { self.now.resolved ≡ true }
         ensures order { IfOk result (λ order. order.items ≡ dependency_order self.now) }
-        ensures cause { IfErr result (λ e. e ≡ Memory) }
     {
         let mut placed = Vec::new(alloc);
         for _number in 0..self.count() {

@@ -1,5 +1,5 @@
 -- What mappings keep as tables and classes are declared, and that a configured one is as the laws of sessions ask.
-use Rattle.std.proofs.Common.{◌≡◌, ◌<◌, ◌≤◌, ℕ, ◌+◌, true, false, List, [], ◌∷◌, ◌++◌, length, take, get_or, Option, None, Some, Result, Ok, Err, ⊎_elim, refl, sym, ap, ◌∙◌, subst, arith}
+use Rattle.std.proofs.Common.{◌≡◌, ◌<◌, ◌≤◌, ℕ, ◌+◌, true, List, [], ◌∷◌, ◌++◌, length, take, get_or, Option, None, Some, Result, Ok, Err, ⊎_elim, refl, sym, ap, ◌∙◌, subst, arith}
 use Rattle.std.proofs.Math.Seq.{take-length}
 use Rattle.std.specs.List.{list_all}
 use Rattle.std.proofs.lemmas.Bool.{and_from, cases_lt}
@@ -79,7 +79,7 @@ faultless_more tables spec none before place less =
     ∙ none)
     (cases_lt place (length tables))
 
-with_one_table : (count : ℕ) (mapped : Mapped) (spec : TableSpec) (table : TableId) (new : Catalog) → declare mapped.schema spec ≡ Ok (table, new) → IsBuilt count mapped → IsBuilt (count + 1) (record { schema = new; classes = mapped.classes; configured = false })
+with_one_table : (count : ℕ) (mapped : Mapped) (spec : TableSpec) (table : TableId) (new : Catalog) → declare mapped.schema spec ≡ Ok (table, new) → IsBuilt count mapped → IsBuilt (count + 1) (record { schema = new; classes = mapped.classes })
 unfolding declare
 with_one_table count mapped spec table new is built =
     let taken : new.tables ≡ mapped.schema.tables ++ spec ∷ [] = ap (λ (schema : Catalog). schema.tables) (table_taken mapped.schema spec table new is) in
@@ -97,7 +97,7 @@ with_one_table count mapped spec table new is built =
 
 over_built : (count : ℕ) (mapped : Mapped) (spec : TableSpec) (r : Result (TableId × Catalog) Refusal) (p : TableId × Mapped) → declare mapped.schema spec ≡ r → over_tables mapped r ≡ Ok p → IsBuilt count mapped → IsBuilt (count + 1) p.1
 over_built count mapped spec (Ok (table, new)) p at is built =
-    let now : Mapped = record { schema = new; classes = mapped.classes; configured = false } in
+    let now : Mapped = record { schema = new; classes = mapped.classes } in
     subst (λ (q : TableId × Mapped). IsBuilt (count + 1) q.1) (let same : (let q : TableId × Mapped = (table, now) in q ≡ p) = cc in same) (with_one_table count mapped spec table new at built)
 over_built count mapped spec (Err e) p at is built = absurd cc
 
@@ -139,11 +139,11 @@ found_well count mapped none built few =
     let valid : IsValidMapping now = valid_from mapped.schema.tables mapped.classes (layouts_of mapped.schema.tables mapped.classes) built.orphans none in
     well_mapped now built.lined built.lines valid (are_related now built.lined built.lines valid) (record { count = omega (arith, built.few, few); faultless = built.faultless; targets = λ done. valid.targets }) built.late
 
-configured_by : (count : ℕ) (mapped : Mapped) (fault : Option ArgumentKind) (p : Unit {0} × Mapped) → fault_of mapped ≡ fault → configured_unless fault mapped ≡ Ok p → IsBuilt count mapped → count ≤ 4294967295 → IsWellMapped p.1
-configured_by count mapped None p at is built few =
-    subst (λ (q : Unit {0} × Mapped). IsWellMapped q.1) (let same : (let q : Unit {0} × Mapped = (tt, configured_mapping mapped) in q ≡ p) = cc in same) (found_well count mapped at built few)
-configured_by count mapped (Some kind) p at is built few = absurd cc
+configured_by : (count : ℕ) (mapped : Mapped) (fault : Option ArgumentKind) (mapping : Mapped) → fault_of mapped ≡ fault → configured_unless fault mapped ≡ Ok mapping → IsBuilt count mapped → count ≤ 4294967295 → IsWellMapped mapping
+configured_by count mapped None mapping at is built few =
+    subst IsWellMapped (let same : configured_mapping mapped ≡ mapping = cc in same) (found_well count mapped at built few)
+configured_by count mapped (Some kind) mapping at is built few = absurd cc
 
-pub configured_well : (count : ℕ) (mapped : Mapped) (p : Unit {0} × Mapped) → configure mapped ≡ Ok p → IsBuilt count mapped → count ≤ 4294967295 → IsWellMapped p.1
+pub configured_well : (count : ℕ) (mapped mapping : Mapped) → configure mapped ≡ Ok mapping → IsBuilt count mapped → count ≤ 4294967295 → IsWellMapped mapping
 unfolding configure
-configured_well count mapped p is built few = configured_by count mapped (fault_of mapped) p refl is built few
+configured_well count mapped mapping is built few = configured_by count mapped (fault_of mapped) mapping refl is built few

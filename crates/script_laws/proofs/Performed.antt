@@ -20,14 +20,14 @@ use Rattle.table_laws.specs.Legality.{Keeps}
 use Rattle.table_laws.proofs.EachJoin.{keeps_each, keeps_give, keeps_then}
 use Rattle.object_arena.specs.Graph.{Graph, fresh_object, make, no_object, object_at, object_limit, place_of, with_fresh, with_object}
 use Rattle.object_arena.proofs.ClassLemmas.{classes_set}
-use Rattle.keeper_core.specs.Programs.{Event, Run, ◌>>=◌, continue_from, each, give}
+use Rattle.keeper_core.specs.Programs.{Event, Run, ◌>>=◌, continue_from, give}
 use Rattle.keeper_core.specs.Beside.{by_own, changes, on_own, on_store}
 use Rattle.keeper_core.specs.Store.{Store}
 use Rattle.schema_core.specs.DependencyOrder.{table_ids}
 use Rattle.session_scopes.specs.Making.{first_given_fault, made_unless as object_unless, object_made, object_with}
 use Rattle.session_scopes.specs.Scoping.{session_nested}
 use Rattle.session_scopes.specs.SessionState.{AreThereStill, IsMadeOf, SameObjects, SessionState, with_notes}
-use Rattle.session_scopes.proofs.SessionLemmas.{there_made, there_still}
+use Rattle.session_scopes.proofs.SessionLemmas.{goes_on, there_made, there_still}
 use Rattle.session_calls.specs.Parts.{World}
 use Rattle.session_calls.proofs.Joining.{same_itself}
 use Rattle.session_acts.specs.Steps as acts
@@ -201,7 +201,7 @@ module _ (law : CallsKeepWhole) (rules : Rules) (names : Bindings) where
   told_left : {A : Type 0} (tell : A → Answer) (m : World → Run World A) (w : World) → ((own : SessionState) (a : A) → IsBound own (tell a)) → AreBound (Configured w.own) names → IsHale (m w).after → SameObjects w.own (m w).after.own → IsLeft names (telling tell m w)
   told_left tell m w binds bound hale same = record {
     hale = told_after IsHale tell m w hale;
-    bound = told_after (λ v. AreBound (Configured v.own) names) tell m w (bound_same names w.own (m w).after.own same bound);
+    bound = told_after (λ v. AreBound (Configured v.own) names) tell m w (bound_same names w.own (m w).after.own (goes_on same) bound);
     told = λ a is. let from = told_answer tell m w a is in subst (IsBound (telling tell m w).after.own) from.2 (binds (telling tell m w).after.own from.0);
   }
 
@@ -232,7 +232,7 @@ module _ (law : CallsKeepWhole) (rules : Rules) (names : Bindings) where
       let same = ((keeps.begins_nested (IsKeyedSince w.own) (since_steps w.own)).kept w (record { keyed = hale.keyed; same = same_itself w.own })).same in
       record {
         hale = told_after IsHale tell m w (called Call.BeginNested w hale tt);
-        bound = told_after (λ v. AreBound (Configured v.own) names) tell m w (bound_same names w.own (m w).after.own same bound);
+        bound = told_after (λ v. AreBound (Configured v.own) names) tell m w (bound_same names w.own (m w).after.own (goes_on same) bound);
         told = λ a is.
             let from = told_answer tell m w a is in
             let there : IsBound (m w).after.own (tell from.0) = (nested_drawn w from.0 from.1, tt) in
@@ -250,7 +250,7 @@ module _ (law : CallsKeepWhole) (rules : Rules) (names : Bindings) where
   link_left object relation w hale bound =
       let run : Run World Related = read_related object relation w in
       let same = ((keeps.reads_links (IsKeyedSince w.own) (since_steps w.own) object relation).kept w (record { keyed = hale.keyed; same = same_itself w.own })).same in
-      shown_from run.events run.after run.answer (λ related session. answer.Thing (link_shown session.graph related)) (λ own related. tt) (called (Call.ReadLink object relation) w hale tt) (bound_same names w.own run.after.own same bound)
+      shown_from run.events run.after run.answer (λ related session. answer.Thing (link_shown session.graph related)) (λ own related. tt) (called (Call.ReadLink object relation) w hale tt) (bound_same names w.own run.after.own (goes_on same) bound)
 
   as_it_was : (a : Answer) (w : World) → ((own : SessionState) → IsBound own a) → IsHale w → AreBound (Configured w.own) names → IsLeft names (give a w)
   unfolding give

@@ -18,7 +18,7 @@ use Rattle.byte_streams.specs.Scripts.{lines_by, lines_from, lines_of}
 use Rattle.session_scopes.specs.SessionState.{SessionState, new_session}
 use Rattle.session_perform.specs.Performing.{program_of_resolved}
 use Rattle.script_types.specs.declared.command.Command.{Command}
-use Rattle.script_types.specs.declared.command.Dialect.{Dialect}
+use Rattle.base_core.specs.declared.dialect.Dialect.{Dialect}
 use Rattle.script_read.specs.Line.{line as said_by}
 use Rattle.sayable_lines.specs.Sayable.{IsSayable}
 use Rattle.sayable_lines.proofs.Lines.{read_is_sayable}
@@ -56,6 +56,7 @@ use Rattle.script_laws.proofs.Built.{built_wider, class_built, configured_well, 
 use Rattle.script_laws.proofs.Late.{IsLateRun, IsLateSaid, said_late}
 use Rattle.script_laws.proofs.Performed.{IsBound, IsLeft, line_left}
 use Rattle.script_laws.proofs.Resolved.{asks_what_is_there, given}
+use Rattle.session_scopes.proofs.SessionLemmas.{goes_on}
 
 abbrev Shells : Type 0
 Shells = Beside ShellState
@@ -129,15 +130,15 @@ turned count more step w least whole moves =
 
 -- ---- declarations
 
-opens : (count : ℕ) (names : Bindings) (store : Store) (r : Result (Unit {0} × Mapped) Refusal) (next : Stage) → ((p : Unit {0} × Mapped) → r ≡ Ok p → IsWellMapped p.1) → names ≡ [] → store ≡ new_store.world → session_stage r ≡ Ok next → IsWholeAt count next names store
-opens count names store (Ok p) next well none empty is =
-    subst (λ (s : Stage). IsWholeAt count s names store) (let same : Configured (new_session p.1) ≡ next = cc in same)
-    (subst (λ (s : Store). IsHale (record { own = new_session p.1; store = s })) (sym empty) (new_whole p.1 (well p refl)), none_bound_in (new_session p.1) names none)
+opens : (count : ℕ) (names : Bindings) (store : Store) (r : Result Mapped Refusal) (next : Stage) → ((mapping : Mapped) → r ≡ Ok mapping → IsWellMapped mapping) → names ≡ [] → store ≡ new_store.world → session_stage r ≡ Ok next → IsWholeAt count next names store
+opens count names store (Ok mapping) next well none empty is =
+    subst (λ (s : Stage). IsWholeAt count s names store) (let same : Configured (new_session mapping) ≡ next = cc in same)
+    (subst (λ (s : Store). IsHale (record { own = new_session mapping; store = s })) (sym empty) (new_whole mapping (well mapping refl)), none_bound_in (new_session mapping) names none)
 opens count names store (Err e) next well none empty is = absurd cc
 
 configures : (count more : ℕ) (stage : Stage) (names : Bindings) (store : Store) (next : Stage) → IsWholeAt count stage names store → count ≤ 4294967295 → opened_stage stage ≡ Ok next → IsWholeAt more next names store
 unfolding opened_stage
-configures count more (Declaring mapping) names store next whole few is = opens more names store (configure mapping) next (λ p done. configured_well count mapping p done whole.0 few) whole.1 whole.2 is
+configures count more (Declaring mapping) names store next whole few is = opens more names store (configure mapping) next (λ now done. configured_well count mapping now done whole.0 few) whole.1 whole.2 is
 configures count more (Configured session) names store next whole few is = absurd cc
 
 without : {A : Type 0} (P : Mapped → Type 0) (r : Result (A × Mapped) Refusal) (p : Unit {0} × Mapped) → ((q : A × Mapped) → r ≡ Ok q → P q.1) → without_number r ≡ Ok p → P p.1
@@ -296,7 +297,7 @@ module _ (law : CallsKeepWhole) (rules : Rules) where
   closed_in count (Configured session) w whole at =
       let v : Beside SessionState = record { own = session; store = w.store } in
       let same = ((keeps.closes (IsKeyedSince session) (since_steps session)).kept v (record { keyed = at.0.keyed; same = same_itself session })).same in
-      ((law rules (Call.Close ∷ []) v at.0 (tt, tt), bound_same w.own.names session (close v).after.own same at.1), whole.1)
+      ((law rules (Call.Close ∷ []) v at.0 (tt, tt), bound_same w.own.names session (close v).after.own (goes_on same) at.1), whole.1)
 
   closed_at : (count : ℕ) (stage : Stage) (w : Shells) → IsWholeShell count w → IsWholeShell count (close_session_at stage w).after
   unfolding give in_session

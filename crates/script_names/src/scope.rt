@@ -1,9 +1,9 @@
 //! The sources in scope.
 
-ghost use Rattle.std.specs.Prelude.{◌≡◌, ◌++◌, ◌∷◌, [], length, IfErr, IfOk, OnOk};
+ghost use Rattle.std.specs.Prelude.{◌≡◌, ◌++◌, ◌∷◌, [], length, IfOk, OnOk};
 ghost use Rattle.std.specs.List.{position};
 ghost use Rattle.std.specs.Option.{option_copied};
-ghost use Rattle.base_core.specs.declared.refusal.Refusal.TheVariants.{InvalidRequestError, Memory};
+ghost use Rattle.base_core.specs.declared.refusal.Refusal.TheVariants.{InvalidRequestError};
 ghost use Rattle.base_core.specs.declared.refusal.RequestKind.TheVariants.{Unknown};
 ghost use Rattle.schema_core.specs.Catalog.{IsTable, same_name};
 ghost use Rattle.script_names.specs.Faults.{TellsFirst};
@@ -19,30 +19,28 @@ use std::alloc::{AllocError, Global};
 /// Sources, each behind its place, in the order in which a name is looked for.
 pub type Scope = Vec<(u32, SynSource)>;
 
-/// One more source, behind the others. The only refusal is `Memory`; a place past 32 bits is none.
-pub fn enter(scope: &mut Scope, source: &SynSource) -> Result<(), Refusal>
-    ensures scope { OnOk result (scope.new.items
+/// One more source, behind the others. A place past 32 bits is none.
+pub fn enter(scope: &mut Scope, source: &SynSource) -> Result<(), AllocError>
+    ensures { OnOk result (scope.new.items
         ≡ scope.old.items ++ (length scope.old.items, source.now) ∷ []) }
-    ensures cause { IfErr result (λ e. e ≡ Memory) }
 {
     let Ok(place) = u32::try_from(scope.len()) else {
-        return Err(Refusal::Memory);
+        return Err(AllocError);
     };
     scope.push((place, source.copied()?))?;
     Ok(())
 }
 
-/// The scope inside an `exists` over this source. The only refusal is `Memory`.
+/// The scope inside an `exists` over this source.
 pub(crate) fn inner_scope(
     alloc: Global,
     scope: &[(u32, SynSource)],
     source: &SynSource,
-) -> Result<Scope, Refusal>
-    ensures scope { IfOk result (λ inner. inner.items ≡ spec.inner_scope scope.now source.now) }
-    ensures cause { IfErr result (λ e. e ≡ Memory) }
+) -> Result<Scope, AllocError>
+    ensures { IfOk result (λ inner. inner.items ≡ spec.inner_scope scope.now source.now) }
 {
     let Ok(place) = u32::try_from(scope.len()) else {
-        return Err(Refusal::Memory);
+        return Err(AllocError);
     };
     let mut inner = Vec::new(alloc);
     inner.push((place, source.copied()?))?;
@@ -76,17 +74,16 @@ fn place_of(columns: &[ColumnSpec], name: &Name) -> Option<usize>
     columns.iter().position(|column| column.name == *name)
 }
 
-/// The column of a name. The only refusal is `Memory`; a place past 32 bits is none.
-pub fn find_column(table: &TableSpec, name: &Name) -> Result<Option<ColumnNo>, Refusal>
-    ensures found { IfOk result (λ found. found ≡ spec.find_column table.now name.now) }
-    ensures cause { IfErr result (λ e. e ≡ Memory) }
+/// The column of a name. A place past 32 bits is none.
+pub fn find_column(table: &TableSpec, name: &Name) -> Result<Option<ColumnNo>, AllocError>
+    ensures { IfOk result (λ found. found ≡ spec.find_column table.now name.now) }
 {
     let Some(place) = place_of(table.columns.as_slice(), name) else {
         return Ok(None);
     };
     match u32::try_from(place) {
         Ok(number) => Ok(Some(ColumnNo(number))),
-        Err(_) => Err(Refusal::Memory),
+        Err(_) => Err(AllocError),
     }
 }
 

@@ -50,7 +50,8 @@ answer_of number (Err e) = Err (refusal_of number e)
 unfoldable pub line : List ℕ → ℕ → Inside → Result Command Refusal
 line bytes number inside = if is_ignored bytes then Ok Skip else answer_of number (line_of inside (start_of (tokens bytes)))
 
--- a call gives the answer, unless memory ran out
-abbrev pub Gives : Result Command Refusal → Result Command Refusal → Type 0
-Gives answer (Ok found) = answer ≡ Ok found
-Gives answer (Err e) = e ≢ Memory → answer ≡ Err e
+-- a fault of the script, or memory ran out
+abbrev pub IsOfReading : Refusal → Type 0
+IsOfReading Memory = Unit {0}
+IsOfReading (ScriptError number column) = Unit {0}
+IsOfReading e = ⊥

@@ -7,8 +7,8 @@ use Rattle.script_lex.specs.declared.kind.Kind.TheVariants as k
 use Rattle.script_tokens.specs.Input.{Reader, ◌>>=◌, ◌>>◌, ◌<$>◌, pure, refuse, peek, take_token, eat, expect, clause, sees, comma_list}
 use Rattle.script_tokens.specs.Names.{name, names}
 use Rattle.std.specs.Prelude.{◌||◌}
-use Rattle.script_types.specs.declared.command.Dialect.{Dialect}
-use Rattle.script_types.specs.declared.command.Dialect.TheVariants.{Sqlite, Postgresql, Mysql}
+use Rattle.base_core.specs.declared.dialect.Dialect.{Dialect}
+use Rattle.base_core.specs.declared.dialect.Dialect.TheVariants.{Sqlite, Postgresql, Mysql}
 use Rattle.script_types.specs.declared.command.Term.{Term}
 use Rattle.script_lex.specs.Lex.{same_kind}
 use Rattle.script_tokens.specs.Literals.{value, begins_literal}

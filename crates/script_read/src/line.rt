@@ -1,6 +1,7 @@
 //! A line.
 
-ghost use Rattle.std.specs.Prelude.{◌≡◌};
+ghost use Rattle.std.specs.Prelude.{◌≡◌, IfErr};
+ghost use Rattle.base_core.specs.Answers.{Gives};
 ghost use Rattle.script_tokens.specs.Input.{Reads};
 ghost use Rattle.script_read.specs.Line as spec;
 
@@ -78,16 +79,18 @@ fn column(at: usize) -> u32
 ///
 /// `line` has no line end, `number` is its number from 1, and `inside` is the block in which it stands.
 ///
+/// # Errors
 /// `ScriptError` tells the line and the column, in bytes from 1, of the first token with which no form goes on, of a byte that begins
-/// no token, or one past the line's last byte.
-#[tactic(auto, unfolding(crate::specs::Line::line))]
+/// no token, or one past the line's last byte. `Memory`.
+#[tactic(auto, using(crate::proofs::Faults::faults), unfolding(crate::specs::Line::line))]
 pub fn read_line(
     alloc: Global,
     line: &[u8],
     number: u32,
     inside: Inside,
 ) -> Result<Command, Refusal>
-    ensures { spec.Gives (spec.line line.now number inside) result }
+    ensures answer { Gives (λ command. command) result (spec.line line.now number inside) }
+    ensures cause { IfErr result spec.IsOfReading }
 {
     if skipped(line) {
         return Ok(Command::Skip);

@@ -5,7 +5,7 @@ ghost use Rattle.script_tokens.specs.Input.{Reads};
 ghost use Rattle.script_read.specs.Top as spec;
 
 use crate::terms::{linked, member, term, two};
-use base_core::Name;
+use base_core::{Dialect, Name};
 use script_blocks::class_head;
 use script_lex::{Kind, same_kind};
 use script_select::bulk::bulk;
@@ -14,7 +14,7 @@ use script_select::select::select;
 use script_tokens::literals::{begins_literal, value};
 use script_tokens::names::name;
 use script_tokens::{Fault, Tokens};
-use script_types::{Command, Dialect, Term};
+use script_types::{Command, Term};
 use std::alloc::Global;
 
 #[tactic(auto, unfolding(crate::specs::Top::set_to))]

@@ -1,18 +1,10 @@
 //! Lines of the script.
 
 use crate::{SynBulk, SynQuery, SynSelect};
-use base_core::{Copied, ListOf, Name, RowValues, Value};
+use base_core::{Copied, Dialect, ListOf, Name, RowValues, Value};
 use class_types::RelationSpec;
 use schema_core::{ColumnSpec, ForeignSpec};
 use std::alloc::AllocError;
-
-/// Whose SQL text is printed.
-#[derive(Clone, Copy, PartialEq, Eq)]
-pub enum Dialect {
-    Sqlite,
-    Postgresql,
-    Mysql,
-}
 
 /// Where a line stands: outside every block, in the block of a table, or in that of a class.
 #[derive(Clone, Copy, PartialEq, Eq)]

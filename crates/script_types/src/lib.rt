@@ -5,6 +5,6 @@ mod command;
 mod expression;
 mod select;
 
-pub use command::{Command, Dialect, Inside, Term};
+pub use command::{Command, Inside, Term};
 pub use expression::{Syn, SynSource};
 pub use select::{SynBulk, SynJoin, SynQuery, SynSelect};

@@ -1,18 +1,15 @@
 -- Calls that flush between what they ask and what they do.
-use Rattle.std.proofs.Common.{◌≡◌, ℕ, ◌+◌, ◌-◌, ◌<◌, ◌≤◌, true, false, List, [], ◌∷◌, length, is_some, ◌==◌, Result, Ok, Err, OnOk, ap, arith}
+use Rattle.std.proofs.Common.{◌≡◌, ℕ, ◌+◌, ◌<◌, ◌≤◌, List, length, Result, Ok, Err, OnOk, ap, arith}
 use Rattle.std.specs.Prelude.{IfOk}
-use Rattle.std.specs.List.{position}
 use Rattle.base_core.specs.declared.refusal.Refusal.{Refusal}
 use Rattle.keeper_core.specs.Store.{Store}
 use Rattle.keeper_core.specs.Programs.{Run, ◌>>=◌}
 use Rattle.keeper_core.specs.Moment.{Moment}
 use Rattle.savepoints.specs.declared.scope.Scope.{Scope}
-use Rattle.session_scopes.specs.Handles.{place_of_handle}
-use Rattle.session_scopes.specs.SessionState.{SessionState, depth_of}
+use Rattle.session_scopes.specs.SessionState.{SessionState}
 use Rattle.session_calls.specs.Calling.{IsSessionCall}
 use Rattle.session_calls.specs.Parts.{World}
 use Rattle.session_calls.proofs.Joining.{err_call, then_call}
-use Rattle.session_acts.proofs.Savepoints.{fewer_than_scopes}
 use Rattle.session_acts.specs.Steps.{flush_whole, flushing}
 
 -- what is asked was refused
@@ -36,16 +33,6 @@ deep_still old new (Ok u) same inside = omega (arith, inside, ap length same)
 deep_still old new (Err e) same inside = tt
 
 -- ---- handles
-
--- where a handle has a place there are handles
-some_place : (handles : List ℕ) (handle : ℕ) → is_some (position (λ other. other == handle) handles) ≡ true → 0 < length handles
-some_place [] handle is = absurd cc
-some_place (other ∷ handles) handle is = omega arith
-
--- a session has more than the transaction in progress where it has a place of the handle, and no rollback is awaited
-pub handle_inside : (own : SessionState) (handle : ℕ) → own.failed ≡ false → length own.drawn.handles ≡ depth_of own - 1 → is_some (place_of_handle own.drawn handle) ≡ true → 1 < length own.frames.scopes
-handle_inside own handle well deep is =
-    fewer_than_scopes own.failed (length own.frames.scopes) (length own.drawn.handles) 0 well deep (some_place own.drawn.handles handle is)
 
 -- a handle that is the next one, and the last one drawn
 pub next_drawn : (r : Result ℕ Refusal) (before now : ℕ) → IfOk r (λ handle. handle ≡ before + 1) → IfOk r (λ handle. handle ≡ now) → IfOk r (λ handle. (0 < handle) × (handle ≤ now))

@@ -8,7 +8,7 @@ use Rattle.keeper_core.proofs.Sequence.{guard_early, guard_lost, guard_ok, guard
 use Rattle.session_scopes.specs.SessionState.{SessionState}
 use Rattle.session_calls.specs.Calling.{IsSessionCall}
 use Rattle.session_calls.specs.Parts.{World}
-use Rattle.session_calls.proofs.Joining.{same_more}
+use Rattle.session_scopes.proofs.SessionLemmas.{goes_more}
 
 -- the call answered
 pub answers : {A X K : Type 0} {moment : K → Moment Store} {v : X → A} {m : World → Run World A} (undo : World → Run World (Unit {0})) {old new : SessionState × K} {x : X}
@@ -25,7 +25,7 @@ pub undone : {A X K : Type 0} {moment : K → Moment Store} {v : X → A} {m : W
     → IsSessionCall moment v m old (Err e) mid → IsSessionCall moment (λ (u : Unit {0}). u) undo mid (Ok tt) new → IsSessionCall moment v (with_undo m undo) old (Err e) new
 undone own p q = record {
   step = guard_refused own p.step q.step;
-  kept = record { same = same_more p.kept.same q.kept.same; in_step = λ h. q.kept.in_step };
+  kept = record { same = goes_more p.kept.same q.kept.same; in_step = λ h. q.kept.in_step };
 }
 
 -- it was refused, and the undoing ended early
@@ -33,5 +33,5 @@ pub lost_undo : {A X K : Type 0} {moment : K → Moment Store} {v : X → A} {m 
     → IsSessionCall moment v m old (Err e) mid → IsSessionCall moment (λ (u : Unit {0}). u) undo mid (Err d) new → IsSessionCall moment v (with_undo m undo) old (Err d) new
 lost_undo own p q = record {
   step = guard_lost own p.step q.step;
-  kept = record { same = same_more p.kept.same q.kept.same; in_step = q.kept.in_step };
+  kept = record { same = goes_more p.kept.same q.kept.same; in_step = q.kept.in_step };
 }

@@ -56,10 +56,8 @@ alike_itself : (own now : SessionState) → now ≡ own → AreAlikeButNotes own
 alike_itself own now is = is ∙ ap (λ (s : SessionState). record own { notes = s.notes }) (sym is)
 
 -- the plan was sent, and the objects changed
-pub rows_settled : (prepared : Prepared) (rows : RowChanges) (keys : List (List Value)) (own mid now : SessionState) (r : Result (Unit {0}) Refusal) → AreAlikeButNotes own mid → length keys ≡ length rows.fresh
-    → OnOk r (now ≡ session_flushed prepared rows keys mid) → OnOk r (IsWritten prepared rows own now)
-rows_settled prepared rows keys own mid now (Ok u) alike long is = written_along prepared rows own mid now alike (keys, long, alike_itself (session_flushed prepared rows keys mid) now is)
-rows_settled prepared rows keys own mid now (Err e) alike long is = tt
+pub rows_settled : (prepared : Prepared) (rows : RowChanges) (keys : List (List Value)) (own mid now : SessionState) → AreAlikeButNotes own mid → length keys ≡ length rows.fresh → now ≡ session_flushed prepared rows keys mid → IsWritten prepared rows own now
+rows_settled prepared rows keys own mid now alike long is = written_along prepared rows own mid now alike (keys, long, alike_itself (session_flushed prepared rows keys mid) now is)
 
 -- the warnings were noted before
 pub written_warned : (prepared : Prepared) (rows : RowChanges) (own mid now : SessionState) (r : Result (Unit {0}) Refusal) → AreAlikeButNotes own mid → OnOk r (IsWritten prepared rows mid now) → OnOk r (IsWritten prepared rows own now)

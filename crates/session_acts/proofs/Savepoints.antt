@@ -1,10 +1,11 @@
 -- Savepoints that begin and end, and the end of the transaction, put together of their parts.
-use Rattle.std.proofs.Common.{◌≡◌, ℕ, ◌+◌, ◌-◌, ◌<◌, ◌≤◌, suc, Bool, true, false, cond, not, [], length, Option, None, Some, Result, Ok, Err, IfErr, IfOk, OnOk, refl, sym, ap, ◌∙◌, subst, add-one, arith}
+use Rattle.std.proofs.Common.{◌≡◌, ℕ, ◌+◌, ◌-◌, ◌<◌, ◌≤◌, suc, Bool, true, false, cond, not, length, Option, None, Some, Result, Ok, Err, IfErr, IfOk, OnOk, refl, sym, ap, ◌∙◌, subst, add-one, arith}
 use Rattle.std.proofs.lemmas.Bool.Decides.{nat_tests}
 use Rattle.std.specs.Prelude.{is_none, nat_lt}
 use Rattle.base_core.specs.declared.refusal.Refusal.{Refusal}
 use Rattle.base_core.specs.declared.refusal.LimitKind.TheVariants.{Savepoints}
 use Rattle.base_core.specs.declared.refusal.Refusal.TheVariants.{LimitReached, Memory, PendingRollbackError, ResourceClosedError}
+use Rattle.keeper_core.specs.Alone.{IsOwn}
 use Rattle.keeper_core.specs.Calls as call
 use Rattle.keeper_core.specs.Store.{Store}
 use Rattle.keeper_core.specs.Programs.{Run, ◌>>=◌, give}
@@ -12,10 +13,12 @@ use Rattle.keeper_core.specs.Moment.{Moment, Reaches, Runs}
 use Rattle.keeper_core.specs.Beside.{by_own, changes}
 use Rattle.keeper_core.proofs.Lifting.{chosen, ends, lost}
 use Rattle.keeper_core.proofs.Sequence.{done, reaches_end, reaches_more, then_err, then_ok}
+use Rattle.object_arena.specs.Graph.{either_fault}
 use Rattle.savepoints.specs.Scopes.{scope_limit}
 use Rattle.session_scopes.specs.Handles.{place_of_handle}
 use Rattle.session_scopes.specs.Scoping.{session_committed, session_nested, session_released}
-use Rattle.session_scopes.specs.SessionState.{AreAlikeButNotes, IsInStep, SameObjects, SessionState}
+use Rattle.session_scopes.specs.SessionState.{IsInStep, SameObjects, SessionState}
+use Rattle.session_scopes.proofs.SessionLemmas.{goes_on}
 use Rattle.session_calls.specs.Calling.{IsNotedCall, IsSessionCall}
 use Rattle.session_calls.specs.Parts.{World, checked, fault_if}
 use Rattle.session_calls.specs.Steps.{enter, pending_fault}
@@ -36,24 +39,14 @@ unfolding begin_savepoint
 nests moment {own = own} {mid = mid} {now = now} {new = new} (Ok number) p is named cause same = record {
   step = then_ok (λ u. changes session_nested >>= next_handle) p.step (then_ok next_handle (ends moment session_nested {r = Ok tt} is tt) (chosen moment (λ session. give session.drawn.drawn) (done (ap (λ (s : SessionState). s.drawn.drawn) is ∙ sym named))));
   kept = record {
-    same = same_more (same_alike own mid p.alike) same;
+    same = goes_on (same_more (same_alike own mid p.alike) same);
     in_step = (p.scopes.0, p.scopes.1 ∙ ap (λ (n : ℕ). n + 1) (sym (alike_scopes own mid p.alike)) ∙ add-one (length mid.frames.scopes) ∙ sym (ap (λ (s : SessionState). length s.frames.scopes) is));
   };
 }
 nests moment {own = own} {mid = mid} {now = now} {new = new} (Err e) p none named cause same = record {
   step = then_ok (λ u. changes session_nested >>= next_handle) p.step (lost moment cause);
-  kept = record { same = same_more (same_alike own mid p.alike) same; in_step = stays_early ℕ e (length now.frames.scopes) (moment new) (memory_early e cause) };
+  kept = record { same = goes_on (same_more (same_alike own mid p.alike) same); in_step = stays_early ℕ e (length now.frames.scopes) (moment new) (memory_early e cause) };
 }
-
--- the handle that is answered is the next one
-pub handle_of : (own mid : SessionState) (r : Result ℕ Refusal) → AreAlikeButNotes own mid → IfOk r (λ handle. handle ≡ mid.drawn.drawn + 1) → IfOk r (λ handle. handle ≡ own.drawn.drawn + 1)
-handle_of own mid (Ok number) alike is = is ∙ ap (λ (s : SessionState). s.drawn.drawn + 1) alike
-handle_of own mid (Err e) alike is = tt
-
--- it was drawn last
-pub drawn_last : (mid now : SessionState) (r : Result ℕ Refusal) → OnOk r (now ≡ session_nested mid) → IfOk r (λ handle. handle ≡ mid.drawn.drawn + 1) → IfOk r (λ handle. handle ≡ now.drawn.drawn)
-drawn_last mid now (Ok number) is named = named ∙ sym (ap (λ (s : SessionState). s.drawn.drawn) is)
-drawn_last mid now (Err e) is named = tt
 
 -- the store ended it early
 pub nests_not : {K : Type 0} (moment : K → Moment Store) (depth : ℕ) {own now : SessionState} {old new : K} {e : Refusal} → IsNotedCall moment call.savepoint depth (own, old) (Err e) (now, new) → IsSessionCall moment (λ (handle : ℕ). handle) begin_savepoint (own, old) (Err e) (now, new)
@@ -96,18 +89,10 @@ release_ended {tell = tell} {whole = whole} {old = old} {mid = mid} n is p =
 
 -- ---- the transaction ends
 
-committed_long : (mid now : SessionState) (r : Result (Unit {0}) Refusal) → OnOk r (now ≡ session_committed mid) → OnOk r (length now.frames.scopes ≡ 0)
-committed_long mid now (Ok u) is = ap (λ (s : SessionState). length s.frames.scopes) is
-committed_long mid now (Err e) is = tt
-
-pub committed_scopes : (mid now : SessionState) (r : Result (Unit {0}) Refusal) → OnOk r (now ≡ session_committed mid) → OnOk r (now.frames.scopes ≡ [])
-committed_scopes mid now (Ok u) is = ap (λ (s : SessionState). s.frames.scopes) is
-committed_scopes mid now (Err e) is = tt
-
-pub commits : {K : Type 0} (moment : K → Moment Store) {own mid now : SessionState} {old new : K} {r : Result (Unit {0}) Refusal} → IsNotedCall moment call.commit 0 (own, old) (Ok tt) (mid, new) → OnOk r (now ≡ session_committed mid) → IfErr r (λ e. e ≡ Memory) → SameObjects mid now
-    → IsSessionCall moment (λ u. u) commit_transaction (own, old) r (now, new)
+pub commits : {K : Type 0} (moment : K → Moment Store) {own mid now : SessionState} {old new : K} → IsNotedCall moment call.commit 0 (own, old) (Ok tt) (mid, new) → now ≡ session_committed mid → SameObjects mid now
+    → IsSessionCall moment (λ (u : Unit {0}). u) commit_transaction (own, old) (Ok tt) (now, new)
 unfolding commit_transaction
-commits moment {mid = mid} {now = now} {r = r} p is cause same = noted_then moment session_committed 0 p is cause same (committed_long mid now r is)
+commits moment p is same = noted_then moment session_committed 0 {r = Ok tt} p is tt same (ap (λ (s : SessionState). length s.frames.scopes) is)
 
 pub commits_not : {Y K : Type 0} (moment : K → Moment Store) {v : Y → Unit {0}} {own now : SessionState} {old new : K} {e : Refusal} → IsNotedCall moment call.commit 0 (own, old) (Err e) (now, new) → IsSessionCall moment v commit_transaction (own, old) (Err e) (now, new)
 unfolding commit_transaction
@@ -144,31 +129,35 @@ pub enters_not : {Y K : Type 0} (moment : K → Moment Store) {v : Y → Unit {0
 unfolding enter_nested
 enters_not moment p = err_call (λ u. checked limit_fault) p
 
-none_pends : (failed : Bool) → failed ≡ false → fault_if failed PendingRollbackError ≡ None
-none_pends failed well = ap (λ (b : Bool). fault_if b PendingRollbackError) well
+-- one of two checks refuses
+one_fails : {X K : Type 0} (moment : K → Moment Store) (f g : SessionState → Option Refusal) {v : X → Unit {0}} {own : SessionState} {keeper : K} {e : Refusal} (first : Option Refusal) → first ≡ f own → either_fault first (g own) ≡ Some e → IsOwn e → IsInStep own (moment keeper)
+    → IsSessionCall moment v (checked f >>= λ u. checked g) (own, keeper) (Err e) (own, keeper)
+one_fails moment f g (Some d) is fault own in_step = err_call (λ u. checked g) (fails moment f {v = λ (u : Unit {0}). u} (sym is ∙ fault) own in_step)
+one_fails moment f g {v = v} None is fault own in_step = then_call (λ u. checked g) (passes moment f (sym is) in_step) (fails moment g {v = v} fault own in_step)
 
--- a rollback is awaited
-pub handle_waits : {K : Type 0} (moment : K → Moment Store) (handle : ℕ) {own : SessionState} {keeper : K} → own.failed ≡ true → IsInStep own (moment keeper)
-    → IsSessionCall moment (λ (u : Unit {0}). u) (check_handle handle) (own, keeper) (Err PendingRollbackError) (own, keeper)
-unfolding check_handle
-handle_waits moment handle failed in_step =
-    err_call (λ u. checked (handle_fault handle)) (fails moment pending_fault {v = λ (u : Unit {0}). u} (ap (λ (b : Bool). fault_if b PendingRollbackError) failed) (refl, refl) in_step)
+-- both pass
+both_pass : {K : Type 0} (moment : K → Moment Store) (f g : SessionState → Option Refusal) {own : SessionState} {keeper : K} (first : Option Refusal) → first ≡ f own → either_fault first (g own) ≡ None → IsInStep own (moment keeper)
+    → IsSessionCall moment (λ (u : Unit {0}). u) (checked f >>= λ u. checked g) (own, keeper) (Ok tt) (own, keeper)
+both_pass moment f g (Some d) is none in_step = absurd cc
+both_pass moment f g None is none in_step = then_call (λ u. checked g) (passes moment f (sym is) in_step) (passes moment g none in_step)
 
--- the handle's savepoint has ended
-pub handle_closed : {K : Type 0} (moment : K → Moment Store) (handle : ℕ) {own : SessionState} {keeper : K} → own.failed ≡ false → None ≡ place_of_handle own.drawn handle → IsInStep own (moment keeper)
-    → IsSessionCall moment (λ (u : Unit {0}). u) (check_handle handle) (own, keeper) (Err ResourceClosedError) (own, keeper)
+own_fault : (failed gone : Bool) (e : Refusal) → either_fault (fault_if failed PendingRollbackError) (fault_if gone ResourceClosedError) ≡ Some e → IsOwn e
+own_fault true gone e is = let same : PendingRollbackError ≡ e = cc in subst IsOwn same (refl, refl)
+own_fault false true e is = let same : ResourceClosedError ≡ e = cc in subst IsOwn same (refl, refl)
+own_fault false false e is = absurd cc
+
+-- a rollback is awaited, or the handle's savepoint has ended
+pub handle_refused : {K : Type 0} (moment : K → Moment Store) (handle : ℕ) {own : SessionState} {keeper : K} {e : Refusal} → either_fault (pending_fault own) (handle_fault handle own) ≡ Some e → IsInStep own (moment keeper)
+    → IsSessionCall moment (λ (u : Unit {0}). u) (check_handle handle) (own, keeper) (Err e) (own, keeper)
 unfolding check_handle
-handle_closed moment handle {own = own} well gone in_step =
-    then_call (λ u. checked (handle_fault handle)) (passes moment pending_fault (none_pends own.failed well) in_step)
-    (fails moment (handle_fault handle) {v = λ (u : Unit {0}). u} (sym (ap (λ (found : Option ℕ). fault_if (is_none found) ResourceClosedError) gone)) (refl, refl) in_step)
+handle_refused moment handle {own = own} {e = e} is in_step =
+    one_fails moment pending_fault (handle_fault handle) {v = λ (u : Unit {0}). u} (pending_fault own) refl is (own_fault own.failed (is_none (place_of_handle own.drawn handle)) e is) in_step
 
 -- it is in progress
-pub handle_open : {K : Type 0} (moment : K → Moment Store) (handle place : ℕ) {own : SessionState} {keeper : K} → own.failed ≡ false → Some place ≡ place_of_handle own.drawn handle → IsInStep own (moment keeper)
+pub handle_open : {K : Type 0} (moment : K → Moment Store) (handle : ℕ) {own : SessionState} {keeper : K} → either_fault (pending_fault own) (handle_fault handle own) ≡ None → IsInStep own (moment keeper)
     → IsSessionCall moment (λ (u : Unit {0}). u) (check_handle handle) (own, keeper) (Ok tt) (own, keeper)
 unfolding check_handle
-handle_open moment handle place {own = own} well here in_step =
-    then_call (λ u. checked (handle_fault handle)) (passes moment pending_fault (none_pends own.failed well) in_step)
-    (passes moment (handle_fault handle) (sym (ap (λ (found : Option ℕ). fault_if (is_none found) ResourceClosedError) here)) in_step)
+handle_open moment handle {own = own} none in_step = both_pass moment pending_fault (handle_fault handle) (pending_fault own) refl none in_step
 
 -- ---- a handle's savepoint ends
 

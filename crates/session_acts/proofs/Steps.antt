@@ -19,7 +19,7 @@ use Rattle.session_scopes.specs.Scoping.{session_failed}
 use Rattle.session_scopes.specs.SessionState.{AreAlikeButNotes, IsInStep, SameObjects, SessionState, with_notes, with_warnings}
 use Rattle.session_calls.specs.Calling.{IsNotedCall, IsSessionCall}
 use Rattle.session_calls.specs.Parts.{World, roll_back_scope}
-use Rattle.session_calls.proofs.Joining.{change_call, chosen_call, err_call, memory_early, noted_err, noted_then, same_alike, stays_early, still_call, then_call}
+use Rattle.session_calls.proofs.Joining.{change_call, chosen_call, err_call, goes_alike, memory_early, noted_err, noted_then, same_alike, stays_early, still_call, then_call}
 use Rattle.session_statements.specs.Run.{send_plan}
 use Rattle.session_acts.specs.Flush.{give_up, prepare, prepared_of, session_flushed, write_objects, write_prepared, write_rows, write_warned}
 use Rattle.session_acts.proofs.Planned.{not_planned, planned}
@@ -103,7 +103,7 @@ pub no_room_alike : {A X K : Type 0} (moment : K → Moment Store) {v : X → A}
 no_room_alike {X = X} moment {own = own} {now = now} {keeper = keeper} {e = e} cause alike = record {
   step = lost moment cause;
   kept = record {
-    same = same_alike own now alike;
+    same = goes_alike own now alike;
     in_step = stays_early X e (length now.frames.scopes) (moment keeper) (memory_early e cause);
   };
 }

@@ -1,9 +1,8 @@
 //! What is asked of a session before a savepoint begins or ends.
 
-ghost use Rattle.std.specs.Prelude.{◌≡◌, ◌<◌, None, IfErr, OnOk, false, is_some, length, true};
+ghost use Rattle.std.specs.Prelude.{◌≡◌, ◌<◌, None, IfErr, OnOk, false, length};
 ghost use Rattle.object_arena.specs.Graph.{either_fault};
 ghost use Rattle.savepoints.specs.Scopes.{scope_limit};
-ghost use Rattle.session_scopes.specs.Handles.{place_of_handle};
 ghost use Rattle.session_scopes.specs.SessionState.{AreAlikeButNotes, IsInStep};
 ghost use Rattle.session_calls.specs.Calling.{IsSessionCall};
 ghost use Rattle.session_calls.specs.Refusals.{IsRefused, entered};
@@ -41,26 +40,20 @@ pub fn enter_nested<K: Keeper>(session: &mut Session, keeper: &mut K) -> Result<
     Ok(())
 }
 
-/// The savepoint of a handle may end.
-///
-/// # Errors
-/// `PendingRollbackError` while a failed flush waits for its rollback; `ResourceClosedError` where the handle's savepoint has
-/// ended, or none had it.
-pub fn check_handle<K: Keeper>(session: &Session, keeper: &K, handle: u32) -> Result<(), Refusal>
-    requires in_step { IsInStep session.now (K.moment keeper.now) }
-    ensures call { IsSessionCall K.moment (λ u. u) (steps.check_handle handle)
-        (session.now, keeper.now) result (session.now, keeper.now) }
-    ensures well { OnOk result (session.now.failed ≡ false) }
-    ensures open { OnOk result (is_some (place_of_handle session.now.drawn handle) ≡ true) }
-    ensures refused { IfErr result (λ e. IsRefused
-        (either_fault (pending_fault session.now) (steps.handle_fault handle session.now))
-        None session.now e session.now) }
+/// Why the savepoint of a handle cannot end: `PendingRollbackError` while a failed flush waits for its rollback;
+/// `ResourceClosedError` where the handle's savepoint has ended, or none had it. A session without a fault has more than the
+/// transaction in progress.
+pub(crate) fn release_fault(session: &Session, handle: u32) -> Option<Refusal>
+    ensures fault { result ≡ either_fault
+        (pending_fault session.now) (steps.handle_fault handle session.now) }
+    ensures well { result ≡ None → session.now.failed ≡ false }
+    ensures inside { result ≡ None → 1 < length session.now.frames.scopes }
 {
     if session.is_failed() {
-        return Err(Refusal::PendingRollbackError);
+        return Some(Refusal::PendingRollbackError);
     }
     match session.place_of_handle(handle) {
-        None => Err(Refusal::ResourceClosedError),
-        Some(_place) => Ok(()),
+        None => Some(Refusal::ResourceClosedError),
+        Some(_place) => None,
     }
 }

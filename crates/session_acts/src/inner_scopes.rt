@@ -28,7 +28,7 @@ pub fn begin_savepoint<K: Keeper>(session: &mut Session, keeper: &mut K) -> Resu
     ensures stops { IfErr result (λ e. ends_early e ≡ true) }
 {
     send_savepoint(session, keeper)?;
-    session.nest()
+    Ok(session.nest()?)
 }
 
 /// Ends the innermost savepoint, and what was done inside stays.
@@ -87,5 +87,6 @@ pub fn commit_transaction<K: Keeper>(session: &mut Session, keeper: &mut K) -> R
     ensures stops { IfErr result (λ e. ends_early e ≡ true) }
 {
     send_commit(session, keeper)?;
-    session.end_transaction()
+    session.end_transaction();
+    Ok(())
 }

@@ -15,7 +15,7 @@ mod transaction;
 mod whole;
 mod writing;
 
-pub use asking::{check_handle, enter_nested};
+pub use asking::enter_nested;
 pub use ends::{commit_whole, release_handle};
 pub use flushing::flush;
 pub use inner_scopes::{begin_savepoint, commit_transaction, release_many};

@@ -10,8 +10,9 @@ ghost use Rattle.session_acts.specs.Savepoints.{handle_fault, limit_fault};
 ghost use Rattle.session_acts.specs.Refusals.{IsRefusedFlushing};
 ghost use Rattle.session_acts.specs.Steps as steps;
 
+use crate::asking::release_fault;
 use crate::whole::flush_whole;
-use crate::{begin_savepoint, check_handle, enter_nested, release_handle};
+use crate::{begin_savepoint, enter_nested, release_handle};
 use base_core::Refusal;
 use keeper_core::Keeper;
 use session_scopes::Session;
@@ -52,8 +53,9 @@ pub fn commit_handle<K: Keeper>(
         (either_fault (pending_fault session.old) (handle_fault handle session.old)) None
         session.old (K.moment keeper.old) e session.new (K.moment keeper.new)) }
 {
-    check_handle(session, keeper, handle)?;
-    let _count = session.savepoints();
+    if let Some(fault) = release_fault(session, handle) {
+        return Err(fault);
+    }
     flush_whole(session, keeper)?;
     release_handle(session, keeper, handle)
 }

@@ -1,10 +1,9 @@
 //! What is decided before a flush, what it changes, and the plan of that.
 
-ghost use Rattle.std.specs.Prelude.{◌≡◌, ◌++◌, [], ◌∷◌, cond, IfErr, IfOk, OnOk};
+ghost use Rattle.std.specs.Prelude.{◌≡◌, ◌++◌, [], ◌∷◌, cond, IfOk, OnOk};
 ghost use Rattle.std.specs.List.{filter};
 ghost use Rattle.base_core.specs.Answers.{Gives};
-ghost use Rattle.base_core.specs.declared.refusal.Refusal.TheVariants.{Memory};
-ghost use Rattle.flush_order.specs.Ready.{AreInRange};
+ghost use Rattle.flush_order.specs.Ready.{AreInRange, AreReady};
 ghost use Rattle.flush_plan.specs.Planning.{plan};
 ghost use Rattle.object_arena.specs.Graph.{IsObject};
 ghost use Rattle.object_rows.specs.Seen.{AreMade, object_ids};
@@ -12,13 +11,14 @@ ghost use Rattle.row_project.specs.Changes.{project};
 ghost use Rattle.session_acts.specs.Flush as spec;
 
 use base_core::{ListOf, ObjId, ObjList, Refusal};
-use flush_plan::plan;
+use flush_order::{NewRows, ReadyRow};
+use flush_plan::plan_ready;
 use object_arena::{Arena, State};
 use object_rows::Prepared;
-use row_project::project;
+use row_project::project_ready;
 use schema_core::{Plan, RowChanges};
 use session_scopes::Session;
-use std::alloc::Global;
+use std::alloc::{AllocError, Global};
 
 /// Whether an object is persistent and marked.
 fn is_to_delete(arena: &Arena, object: ObjId) -> bool
@@ -30,11 +30,10 @@ fn is_to_delete(arena: &Arena, object: ObjId) -> bool
 }
 
 /// Puts an object behind others, where it is to be deleted.
-fn push_marked(marked: &mut ObjList, arena: &Arena, object: ObjId) -> Result<(), Refusal>
+fn push_marked(marked: &mut ObjList, arena: &Arena, object: ObjId) -> Result<(), AllocError>
     requires { IsObject arena.now object }
-    ensures marked { OnOk result (marked.new
+    ensures { OnOk result (marked.new
         ≡ marked.old ++ cond (spec.is_to_delete arena.now object) (object ∷ []) []) }
-    ensures cause { IfErr result (λ e. e ≡ Memory) }
 {
     if is_to_delete(arena, object) {
         marked.push(object)?;
@@ -43,10 +42,9 @@ fn push_marked(marked: &mut ObjList, arena: &Arena, object: ObjId) -> Result<(),
 }
 
 /// The persistent objects that are marked, by number.
-fn marked_objects(alloc: Global, arena: &Arena) -> Result<ObjList, Refusal>
-    ensures marked { IfOk result
+fn marked_objects(alloc: Global, arena: &Arena) -> Result<ObjList, AllocError>
+    ensures { IfOk result
         (λ marked. marked ≡ filter (spec.is_to_delete arena.now) (object_ids arena.now)) }
-    ensures cause { IfErr result (λ e. e ≡ Memory) }
 {
     let mut marked = ListOf::new(alloc);
     for place in 0..arena.count() {
@@ -55,11 +53,10 @@ fn marked_objects(alloc: Global, arena: &Arena) -> Result<ObjList, Refusal>
     Ok(marked)
 }
 
-/// What is decided of the objects before a flush: the marked ones are to be deleted. The only refusal is `Memory`.
-pub(crate) fn prepared_objects(session: &Session) -> Result<Prepared, Refusal>
+/// What is decided of the objects before a flush: the marked ones are to be deleted.
+pub(crate) fn prepared_objects(session: &Session) -> Result<Prepared, AllocError>
     ensures prepared { IfOk result (λ prepared. prepared ≡ spec.prepared_of session.now.graph) }
     ensures made { IfOk result (AreMade session.now.graph) }
-    ensures cause { IfErr result (λ e. e ≡ Memory) }
 {
     let alloc = session.alloc();
     let deleted = marked_objects(alloc, session.arena())?;
@@ -70,18 +67,19 @@ pub(crate) fn prepared_objects(session: &Session) -> Result<Prepared, Refusal>
     })
 }
 
-/// What a flush of the prepared objects changes. The only refusal is `Memory`.
+/// What a flush of the prepared objects changes, with its new rows made ready.
 pub(crate) fn prepared_changes(
     session: &Session,
     prepared: &Prepared,
-) -> Result<RowChanges, Refusal>
+) -> Result<(RowChanges, Vec<ReadyRow>), AllocError>
     requires { AreMade session.now.graph prepared.now }
-    ensures changes { IfOk result (λ changes. changes
+    ensures changes { IfOk result (λ made. made.0
         ≡ project session.now.mapping session.now.graph prepared.now) }
-    ensures range { IfOk result (AreInRange session.now.mapping.schema) }
-    ensures cause { IfErr result (λ e. e ≡ Memory) }
+    ensures range { IfOk result (λ made. AreInRange session.now.mapping.schema made.0) }
+    ensures ready { IfOk result
+        (λ made. AreReady session.now.mapping.schema made.0 made.1.items) }
 {
-    project(
+    project_ready(
         session.alloc(),
         session.arena(),
         session.mapping(),
@@ -89,13 +87,23 @@ pub(crate) fn prepared_changes(
     )
 }
 
-/// The plan of changes.
+/// The plan of changes of which the new rows are made ready.
 ///
 /// # Errors
 /// `CircularDependencyError` where no order is left; `Memory`.
-pub(crate) fn planned_changes(session: &Session, rows: &RowChanges) -> Result<Plan, Refusal>
-    requires { AreInRange session.now.mapping.schema rows.now }
+pub(crate) fn planned_changes(
+    session: &Session,
+    rows: &RowChanges,
+    ready: &[ReadyRow],
+) -> Result<Plan, Refusal>
+    requires range { AreInRange session.now.mapping.schema rows.now }
+    requires ready { AreReady session.now.mapping.schema rows.now ready.now }
     ensures { Gives (λ plan. plan) result (plan session.now.mapping.schema rows.now) }
 {
-    plan(session.alloc(), session.mapping().schema(), rows)
+    let new = NewRows {
+        schema: session.mapping().schema(),
+        changes: rows,
+        rows: ready,
+    };
+    plan_ready(session.alloc(), &new)
 }

@@ -1,7 +1,7 @@
 //! What a flush writes, and what success makes of the objects.
 
 ghost use Rattle.std.specs.Prelude.{◌≡◌, ◌<◌, [], length, IfErr, OnOk};
-ghost use Rattle.flush_order.specs.Ready.{AreInRange};
+ghost use Rattle.flush_order.specs.Ready.{AreInRange, AreReady};
 ghost use Rattle.graph_flushed.specs.Flushed.{graph_flushed};
 ghost use Rattle.session_scopes.specs.SessionState.{IsInStep};
 ghost use Rattle.session_calls.specs.Calling.{IsSessionCall};
@@ -11,17 +11,17 @@ ghost use Rattle.session_acts.specs.Outcome.{IsFlushCause, IsFlushed, IsUntouche
 use crate::preparing::{planned_changes, prepared_changes, prepared_objects};
 use base_core::{Key, ListOf, Refusal};
 use class_mapping::Mapping;
+use flush_order::ReadyRow;
 use flush_settling::settle;
 use graph_flushed::flushes_fit;
 use keeper_core::Keeper;
-use mapping_laws::has_hierarchies;
 use object_arena::Arena;
 use object_rows::Prepared;
 use savepoints::Frames;
 use schema_core::RowChanges;
 use session_scopes::{ObjectStep, Session};
 use session_statements::send_plan;
-use std::alloc::Global;
+use std::alloc::{AllocError, Global};
 
 /// What a flush wrote: the objects are to stand as they were written.
 #[derive(Drop)]
@@ -43,16 +43,15 @@ impl<'a> ObjectStep for Settling<'a> {
         mapping: &Mapping,
         arena: &mut Arena,
         frames: &mut Frames,
-    ) -> Result<(), Refusal> {
+    ) -> Result<(), AllocError> {
         let Settling {
             alloc,
             prepared,
             rows,
             keys,
         } = self;
-        // It is configured, and what was written fits it.
-        let _hierarchies = has_hierarchies(mapping);
-        let _related = mapping.is_configured();
+        // What was written fits the mapping.
+        let _configured = mapping.schema();
         flushes_fit();
         settle(alloc, arena, frames, mapping, prepared, rows, keys)
     }
@@ -68,10 +67,12 @@ fn write_rows<K: Keeper>(
     keeper: &mut K,
     prepared: &Prepared,
     rows: &RowChanges,
+    ready: &[ReadyRow],
 ) -> Result<(), Refusal>
     requires in_step { IsInStep session.old (K.moment keeper.old) }
     requires inside { 0 < length session.old.frames.scopes }
     requires range { AreInRange session.old.mapping.schema rows.now }
+    requires ready { AreReady session.old.mapping.schema rows.now ready.now }
     requires cleared { prepared.now.cleared ≡ [] }
     ensures call { IsSessionCall K.moment (λ u. u)
         (spec.write_rows prepared.now rows.now)
@@ -83,14 +84,14 @@ fn write_rows<K: Keeper>(
     ensures cause { IfErr result (λ e. IsWriteCause session.old.mapping.schema rows.now
         (K.moment keeper.old) e (K.moment keeper.new)) }
 {
-    let statements = planned_changes(session, rows)?;
+    let statements = planned_changes(session, rows, ready)?;
     let keys = send_plan(session, keeper, rows, &statements)?;
-    session.step(Settling {
+    Ok(session.step(Settling {
         alloc: session.alloc(),
         prepared,
         rows,
         keys: &keys,
-    })
+    })?)
 }
 
 /// Notes the warnings of what a prepared graph changes, and writes it.
@@ -99,10 +100,12 @@ fn write_warned<K: Keeper>(
     keeper: &mut K,
     prepared: &Prepared,
     rows: &RowChanges,
+    ready: &[ReadyRow],
 ) -> Result<(), Refusal>
     requires in_step { IsInStep session.old (K.moment keeper.old) }
     requires inside { 0 < length session.old.frames.scopes }
     requires range { AreInRange session.old.mapping.schema rows.now }
+    requires ready { AreReady session.old.mapping.schema rows.now ready.now }
     requires cleared { prepared.now.cleared ≡ [] }
     ensures call { IsSessionCall K.moment (λ u. u)
         (spec.write_warned prepared.now rows.now)
@@ -115,7 +118,7 @@ fn write_warned<K: Keeper>(
         (K.moment keeper.old) e (K.moment keeper.new)) }
 {
     session.warn_all(rows.warnings.as_slice())?;
-    write_rows(session, keeper, prepared, rows)
+    write_rows(session, keeper, prepared, rows, ready)
 }
 
 /// Writes what is pending, changed and marked.
@@ -133,6 +136,6 @@ pub(crate) fn write_objects<K: Keeper>(session: &mut Session, keeper: &mut K) ->
         (λ e. IsFlushCause session.old (K.moment keeper.old) e (K.moment keeper.new)) }
 {
     let prepared = prepared_objects(session)?;
-    let rows = prepared_changes(session, &prepared)?;
-    write_warned(session, keeper, &prepared, &rows)
+    let (rows, ready) = prepared_changes(session, &prepared)?;
+    write_warned(session, keeper, &prepared, &rows, ready.as_slice())
 }

@@ -1,11 +1,11 @@
 -- Each call of the session, put together of its parts.
-use Rattle.std.proofs.Common.{◌≡◌, cond, ℕ, ◌+◌, ◌-◌, ◌<◌, ◌≤◌, ◌≢◌, Bool, true, false, ◌&&◌, ◌==◌, not, List, [], ◌∷◌, length, Option, None, Some, Result, Ok, Err, IfErr, OnOk, refl, sym, ap, ◌∙◌, subst, arith}
+use Rattle.std.proofs.Common.{◌≡◌, cond, ℕ, ◌+◌, ◌-◌, ◌<◌, ◌≤◌, ◌≢◌, Bool, true, false, ◌&&◌, ◌==◌, not, List, [], ◌∷◌, length, Option, None, Some, Result, Ok, Err, OnOk, refl, sym, ap, ◌∙◌, subst, arith}
 use Rattle.std.proofs.lemmas.Bool.Decides.{nat_tests}
 use Rattle.base_core.specs.declared.ids.AttrNo.{AttrNo}
 use Rattle.base_core.specs.declared.ids.ClassId.{ClassId}
 use Rattle.base_core.specs.declared.ids.ObjId.{ObjId}
 use Rattle.base_core.specs.declared.refusal.Refusal.{Refusal}
-use Rattle.base_core.specs.declared.refusal.Refusal.TheVariants.{Memory, PendingRollbackError, ResourceClosedError}
+use Rattle.base_core.specs.declared.refusal.Refusal.TheVariants.{PendingRollbackError, ResourceClosedError}
 use Rattle.base_core.specs.declared.value.Value.{Value}
 use Rattle.class_mapping.specs.Mapped.{IsAttribute, Mapped, attribute_of}
 use Rattle.keeper_core.specs.Calls as call
@@ -13,19 +13,18 @@ use Rattle.object_arena.specs.Every.{classes_of}
 use Rattle.object_arena.specs.Graph.{IsObject, object_at, value_fault}
 use Rattle.keeper_core.specs.Alone.{IsOwn}
 use Rattle.keeper_core.specs.Store.{Store}
-use Rattle.keeper_core.specs.Programs.{◌>>=◌, ends_early, give}
+use Rattle.keeper_core.specs.Programs.{◌>>=◌, give}
 use Rattle.keeper_core.specs.Moment.{Moment}
 use Rattle.keeper_core.specs.Beside.{by_own, changes, on_own}
 use Rattle.savepoints.specs.declared.scope.Scope.{Scope}
 use Rattle.savepoints.specs.Scopes.{begun_at}
 use Rattle.schema_core.specs.Refusals.{kind_fault}
 use Rattle.schema_core.specs.Tables.{kind_of_value}
-use Rattle.session_parts.proofs.ObjectLemmas.{class_still}
-use Rattle.session_parts.specs.Depths.{HasDepth, has_scope}
+use Rattle.session_parts.specs.Depths.{has_scope}
 use Rattle.session_scopes.specs.Changes.{value_put}
 use Rattle.session_scopes.specs.Handles.{place_of_handle}
 use Rattle.session_scopes.specs.Scoping.{session_begun, session_closed, session_restored, session_rolled_back}
-use Rattle.session_scopes.specs.SessionState.{AreAlikeButNotes, IsInStep, SameObjects, SessionState, depth_in, in_transaction}
+use Rattle.session_scopes.specs.SessionState.{AreAlikeButNotes, GoesOn, IsInStep, SameObjects, SessionState, depth_in, in_transaction}
 use Rattle.session_calls.specs.Calling.{IsNotedCall, IsSessionCall}
 use Rattle.session_calls.specs.Parts.{fault_if, go_back, roll_back_scope}
 use Rattle.session_calls.specs.Steps.{begin_unless, close, enter, go_back_if, pending_fault, roll_back_if, roll_back_place, rollback, rollback_handle, set_cell}
@@ -34,11 +33,10 @@ use Rattle.session_calls.proofs.Joining.{change_call, chosen_call, err_call, fai
 -- ---- the transaction begins
 
 -- the one scope is the transaction's
-pub begun_long : (own mid now : SessionState) (r : Result (Unit {0}) Refusal) → AreAlikeButNotes own mid → own.frames.scopes ≡ [] → OnOk r (now ≡ session_begun mid) → OnOk r (length now.frames.scopes ≡ 1)
-begun_long own mid now (Ok u) alike outside is =
+pub begun_long : (own mid now : SessionState) → AreAlikeButNotes own mid → own.frames.scopes ≡ [] → now ≡ session_begun mid → length now.frames.scopes ≡ 1
+begun_long own mid now alike outside is =
     let scopes : mid.frames.scopes ≡ [] = ap (λ (s : SessionState). s.frames.scopes) alike ∙ outside in
     ap (λ (s : SessionState). length s.frames.scopes) is ∙ ap (λ xs. length (begun_at mid.graph ∷ xs)) scopes
-begun_long own mid now (Err e) alike outside is = tt
 
 -- a call that is entered
 pub enters : {K : Type 0} (moment : K → Moment Store) {own now : SessionState} {old new : K} {r : Result (Unit {0}) Refusal} → own.failed ≡ false → IsInStep own (moment old)
@@ -148,10 +146,6 @@ place_rolled moment {v = v} {own = own} {now = now} {old = old} {new = new} {r =
 
 -- ---- the session is closed
 
-closed_long : (mid now : SessionState) (r : Result (Unit {0}) Refusal) → OnOk r (now ≡ session_closed mid) → OnOk r (length now.frames.scopes ≡ 0)
-closed_long mid now (Ok u) is = ap (λ (s : SessionState). length s.frames.scopes) is
-closed_long mid now (Err e) is = tt
-
 pub closes_by : {X K : Type 0} (moment : K → Moment Store) {v : X → Unit {0}} {own now : SessionState} {old new : K} {r : Result X Refusal} (begun : Bool) → in_transaction own ≡ begun
     → IsSessionCall moment v (roll_back_if begun >>= λ u. changes session_closed) (own, old) r (now, new) → IsSessionCall moment v close (own, old) r (now, new)
 unfolding close
@@ -160,25 +154,21 @@ closes_by moment {v = v} {own = own} {now = now} {old = old} {new = new} {r = r}
     (subst (λ (b : Bool). IsSessionCall moment v (roll_back_if b >>= λ u. changes session_closed) (own, old) r (now, new)) (sym inside) p)
 
 -- in the transaction
-pub closes : {K : Type 0} (moment : K → Moment Store) {own mid now : SessionState} {old new : K} {r : Result (Unit {0}) Refusal} → IsNotedCall moment call.rollback 0 (own, old) (Ok tt) (mid, new)
-    → OnOk r (now ≡ session_closed mid) → IfErr r (λ e. e ≡ Memory) → SameObjects mid now → IsSessionCall moment (λ u. u) (roll_back_if true >>= λ u. changes session_closed) (own, old) r (now, new)
-closes moment {mid = mid} {now = now} {r = r} p is cause same = noted_then moment session_closed 0 p is cause same (closed_long mid now r is)
+pub closes : {K : Type 0} (moment : K → Moment Store) {own mid now : SessionState} {old new : K} → IsNotedCall moment call.rollback 0 (own, old) (Ok tt) (mid, new)
+    → now ≡ session_closed mid → SameObjects mid now → IsSessionCall moment (λ (u : Unit {0}). u) (roll_back_if true >>= λ u. changes session_closed) (own, old) (Ok tt) (now, new)
+closes moment p is same = noted_then moment session_closed 0 {r = Ok tt} p is tt same (ap (λ (s : SessionState). length s.frames.scopes) is)
 
 -- the store ended it early
 pub closes_not : {Y K : Type 0} (moment : K → Moment Store) {v : Y → Unit {0}} {own mid : SessionState} {old new : K} {e : Refusal} → IsNotedCall moment call.rollback 0 (own, old) (Err e) (mid, new) → IsSessionCall moment v (roll_back_if true >>= λ u. changes session_closed) (own, old) (Err e) (mid, new)
 closes_not moment p = noted_err moment (λ u. changes session_closed) 0 p
 
 -- outside
-pub closes_outside : {K : Type 0} (moment : K → Moment Store) {own now : SessionState} {keeper : K} {r : Result (Unit {0}) Refusal} → in_transaction own ≡ false → own.frames.scopes ≡ [] → IsInStep own (moment keeper)
-    → OnOk r (now ≡ session_closed own) → IfErr r (λ e. e ≡ Memory) → SameObjects own now → IsSessionCall moment (λ u. u) close (own, keeper) r (now, keeper)
-closes_outside moment {own = own} {now = now} {keeper = keeper} {r = r} inside outside in_step is cause same =
+pub closes_outside : {K : Type 0} (moment : K → Moment Store) {own now : SessionState} {keeper : K} → in_transaction own ≡ false → own.frames.scopes ≡ [] → IsInStep own (moment keeper)
+    → now ≡ session_closed own → SameObjects own now → IsSessionCall moment (λ (u : Unit {0}). u) close (own, keeper) (Ok tt) (now, keeper)
+closes_outside moment {own = own} inside outside in_step is same =
     closes_by moment false inside
     (then_call (λ u. changes session_closed) (still_call moment {v = λ (u : Unit {0}). u} refl in_step)
-    (change_call moment session_closed is cause same (deep r (closed_long own now r is))))
-  where
-    deep : (r : Result (Unit {0}) Refusal) → OnOk r (length now.frames.scopes ≡ 0) → OnOk r (HasDepth (length now.frames.scopes) (moment keeper))
-    deep (Ok u) long = (in_step.0, in_step.1 ∙ ap length outside ∙ sym long)
-    deep (Err e) long = tt
+    (change_call moment session_closed {own = own} {r = Ok tt} is tt same (in_step.0, in_step.1 ∙ ap length outside ∙ sym (ap (λ (s : SessionState). length s.frames.scopes) is))))
 
 -- ---- whether a transaction is in progress
 
@@ -217,38 +207,22 @@ gone_fits false scopes count place counts gone = absurd cc
 
 -- ---- an object, once the call is entered
 
-pub attr_still : (old new : SessionState) (object : ObjId) (attr : AttrNo) → SameObjects old new → IsObject old.graph object → IsAttribute old.mapping (object_at old.graph object).class attr → IsAttribute new.mapping (object_at new.graph object).class attr
-attr_still old new object attr same made is =
-    subst (λ (m : Mapped). IsAttribute m (object_at new.graph object).class attr) (sym same.mapping)
-    (subst (λ (k : ClassId). IsAttribute old.mapping k attr) (sym (class_still old.graph new.graph object same.classes made)) is)
+pub attr_still : (old new : SessionState) (object : ObjId) (attr : AttrNo) → GoesOn old new → IsObject old.graph object → IsAttribute old.mapping (object_at old.graph object).class attr → IsAttribute new.mapping (object_at new.graph object).class attr
+attr_still old new object attr on made is =
+    subst (λ (m : Mapped). IsAttribute m (object_at new.graph object).class attr) (sym on.mapping)
+    (subst (λ (k : ClassId). IsAttribute old.mapping k attr) (sym (on.there object made).1) is)
 
-pub fits_still : (old new : SessionState) (object : ObjId) (attr : AttrNo) (value : Value) → SameObjects old new → IsObject old.graph object → value_fault old.mapping (object_at old.graph object) attr value ≡ None → value_fault new.mapping (object_at new.graph object) attr value ≡ None
-fits_still old new object attr value same made is =
-    ap (λ (m : Mapped). kind_fault (attribute_of m (object_at new.graph object).class attr).kind (kind_of_value value)) same.mapping
-    ∙ ap (λ (k : ClassId). kind_fault (attribute_of old.mapping k attr).kind (kind_of_value value)) (class_still old.graph new.graph object same.classes made) ∙ is
+pub fits_still : (old new : SessionState) (object : ObjId) (attr : AttrNo) (value : Value) → GoesOn old new → IsObject old.graph object → value_fault old.mapping (object_at old.graph object) attr value ≡ None → value_fault new.mapping (object_at new.graph object) attr value ≡ None
+fits_still old new object attr value on made is =
+    ap (λ (m : Mapped). kind_fault (attribute_of m (object_at new.graph object).class attr).kind (kind_of_value value)) on.mapping
+    ∙ ap (λ (k : ClassId). kind_fault (attribute_of old.mapping k attr).kind (kind_of_value value)) (on.there object made).1 ∙ is
 
 -- ---- what is known of the session then
-
-pub closed_scopes : (mid now : SessionState) (r : Result (Unit {0}) Refusal) → OnOk r (now ≡ session_closed mid) → OnOk r (now.frames.scopes ≡ [])
-closed_scopes mid now (Ok u) is = ap (λ (s : SessionState). s.frames.scopes) is
-closed_scopes mid now (Err e) is = tt
 
 pub none_left : (scopes : List Scope) (r : Result (Unit {0}) Refusal) → OnOk r (length scopes ≡ 0) → OnOk r (scopes ≡ [])
 none_left [] (Ok u) long = refl
 none_left (scope ∷ scopes) (Ok u) long = absurd (omega (arith, long))
 none_left scopes (Err e) long = tt
-
-pub begun_open : (n : ℕ) (r : Result (Unit {0}) Refusal) → OnOk r (n ≡ 1) → OnOk r (0 < n)
-begun_open n (Ok u) long = omega (arith, long)
-begun_open n (Err e) long = tt
-
-pub begun_well : (own mid now : SessionState) (r : Result (Unit {0}) Refusal) → AreAlikeButNotes own mid → own.failed ≡ false → OnOk r (now ≡ session_begun mid) → OnOk r (now.failed ≡ false)
-begun_well own mid now (Ok u) alike well is = ap (λ (s : SessionState). s.failed) is ∙ ap (λ (s : SessionState). s.failed) alike ∙ well
-begun_well own mid now (Err e) alike well is = tt
-
-pub memory_stops : {X : Type 0} (r : Result X Refusal) → IfErr r (λ e. e ≡ Memory) → IfErr r (λ e. ends_early e ≡ true)
-memory_stops (Ok x) cause = tt
-memory_stops (Err e) cause = ap ends_early cause
 
 -- ---- the scope at a depth is rolled back in the store
 

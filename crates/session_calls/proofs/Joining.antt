@@ -10,7 +10,8 @@ use Rattle.keeper_core.specs.Beside.{by_own, changes, on_own, on_store}
 use Rattle.keeper_core.proofs.Lifting.{chosen, ends, quietly}
 use Rattle.keeper_core.proofs.Sequence.{done, refused, then_err, then_ok}
 use Rattle.session_parts.specs.Depths.{HasDepth, StaysAt}
-use Rattle.session_scopes.specs.SessionState.{AreAlikeButNotes, IsInStep, SameObjects, SessionState, with_notes}
+use Rattle.session_scopes.specs.SessionState.{AreAlikeButNotes, GoesOn, IsInStep, SameObjects, SessionState, with_notes}
+use Rattle.session_scopes.proofs.SessionLemmas.{goes_more, goes_on}
 use Rattle.session_calls.specs.Calling.{IsNotedCall, IsSessionCall}
 use Rattle.session_calls.specs.Parts.{World, checked, unless}
 
@@ -24,6 +25,14 @@ same_more p q = record { mapping = q.mapping ∙ p.mapping; classes = q.classes 
 
 pub same_alike : (old new : SessionState) → AreAlikeButNotes old new → SameObjects old new
 same_alike old new is = subst (λ (s : SessionState). SameObjects old s) (sym is) (record { mapping = refl; classes = refl; drawn = omega arith })
+
+-- ---- the session goes on
+
+pub goes_itself : (session : SessionState) → GoesOn session session
+goes_itself session = goes_on (same_itself session)
+
+pub goes_alike : (old new : SessionState) → AreAlikeButNotes old new → GoesOn old new
+goes_alike old new is = goes_on (same_alike old new is)
 
 -- ---- the keeper in step
 
@@ -48,7 +57,7 @@ pub then_call : {A B X Y K : Type 0} {moment : K → Moment Store} {v : X → A}
     → IsSessionCall moment v m old (Ok x) mid → IsSessionCall moment v' (next (v x)) mid r new → IsSessionCall moment v' (m >>= next) old r new
 then_call next p q = record {
   step = then_ok next p.step q.step;
-  kept = record { same = same_more p.kept.same q.kept.same; in_step = q.kept.in_step };
+  kept = record { same = goes_more p.kept.same q.kept.same; in_step = q.kept.in_step };
 }
 
 -- a call that was refused
@@ -78,18 +87,18 @@ pub own_call : {A X K : Type 0} (moment : K → Moment Store) {v : X → A} (m :
 own_call moment m {own = own} {now = now} {keeper = keeper} {r = r} quiet same scopes in_step = record {
   step = quietly moment m quiet;
   kept = record {
-    same = same;
+    same = goes_on same;
     in_step = stays_there r (length now.frames.scopes) (moment keeper) (in_step.0, in_step.1 ∙ ap length (sym scopes));
   };
 }
 
 -- nothing is done
 pub still_call : {A X K : Type 0} (moment : K → Moment Store) {v : X → A} {a : A} {x : X} {own : SessionState} {keeper : K} → a ≡ v x → IsInStep own (moment keeper) → IsSessionCall moment v (give a) (own, keeper) (Ok x) (own, keeper)
-still_call moment {own = own} is in_step = record { step = done is; kept = record { same = same_itself own; in_step = in_step } }
+still_call moment {own = own} is in_step = record { step = done is; kept = record { same = goes_itself own; in_step = in_step } }
 
 -- a refusal with nothing done
 pub refused_call : {A X K : Type 0} (moment : K → Moment Store) {v : X → A} {e : Refusal} {own : SessionState} {keeper : K} → IsOwn e → IsInStep own (moment keeper) → IsSessionCall moment v (refuse e) (own, keeper) (Err e) (own, keeper)
-refused_call moment {own = own} is in_step = record { step = refused is.0 is.1; kept = record { same = same_itself own; in_step = λ own_refusal. in_step } }
+refused_call moment {own = own} is in_step = record { step = refused is.0 is.1; kept = record { same = goes_itself own; in_step = λ own_refusal. in_step } }
 
 -- a check that passes
 pub passes : {K : Type 0} (moment : K → Moment Store) (fault : SessionState → Option Refusal) {own : SessionState} {keeper : K} → fault own ≡ None → IsInStep own (moment keeper)
@@ -112,7 +121,7 @@ pub change_call : {K : Type 0} (moment : K → Moment Store) (f : SessionState �
     → OnOk r (now ≡ f own) → IfErr r (λ e. e ≡ Memory) → SameObjects own now → OnOk r (HasDepth (length now.frames.scopes) (moment keeper)) → IsSessionCall moment (λ u. u) (changes f) (own, keeper) r (now, keeper)
 change_call moment f {own = own} {now = now} {keeper = keeper} {r = r} is cause same deep = record {
   step = ends moment f is cause;
-  kept = record { same = same; in_step = stays_ok r (length now.frames.scopes) (moment keeper) deep cause };
+  kept = record { same = goes_on same; in_step = stays_ok r (length now.frames.scopes) (moment keeper) deep cause };
 }
 
 -- ---- a call of the store that was noted
@@ -123,7 +132,7 @@ pub noted_then : {K : Type 0} (moment : K → Moment Store) {m : Store → Run S
 noted_then moment f depth {own = own} {mid = mid} {now = now} {keeper = keeper} {r = r} p is cause same long = record {
   step = then_ok (λ u. changes f) p.step (ends moment f is cause);
   kept = record {
-    same = same_more (same_alike own mid p.alike) same;
+    same = goes_on (same_more (same_alike own mid p.alike) same);
     in_step = stays_ok r (length now.frames.scopes) (moment keeper) (deep r long) cause;
   };
 }
@@ -137,5 +146,5 @@ pub noted_err : {B Y K : Type 0} (moment : K → Moment Store) {m : Store → Ru
     → IsSessionCall moment v' (on_store with_notes m >>= next) (own, old) (Err e) (now, new)
 noted_err {Y = Y} moment next depth {own = own} {now = now} {new = new} {e = e} p = record {
   step = then_err next p.step;
-  kept = record { same = same_alike own now p.alike; in_step = stays_early Y e (length now.frames.scopes) (moment new) p.stops };
+  kept = record { same = goes_alike own now p.alike; in_step = stays_early Y e (length now.frames.scopes) (moment new) p.stops };
 }

@@ -1,5 +1,5 @@
 -- Calls of the store that the session notes.
-use Rattle.std.proofs.Common.{◌≡◌, ℕ, Bool, true, false, cond, List, [], ◌∷◌, length, Option, None, Some, IfSome, Result, Ok, Err, MatchBool, refl, sym, ap, ◌∙◌, subst, arith}
+use Rattle.std.proofs.Common.{◌≡◌, ℕ, Bool, true, false, cond, List, [], ◌∷◌, length, Option, None, Some, IfSome, Result, Ok, Err, MatchBool, refl, sym, ap, ◌∙◌, subst}
 use Rattle.base_core.specs.declared.refusal.Refusal.{Refusal}
 use Rattle.base_core.specs.declared.refusal.Refusal.TheVariants.{Memory}
 use Rattle.schema_core.specs.Tables.{Tables}
@@ -10,10 +10,10 @@ use Rattle.keeper_core.specs.Moment.{AsTold, Moment, Ran, Runs, Told, parts}
 use Rattle.keeper_core.specs.Beside.{IsNotedAs, Noted, moment_beside, on_store, told_beside}
 use Rattle.keeper_core.proofs.Lifting.{on_keeper_noted, spoiled}
 use Rattle.keeper_core.specs.Keeping.{IsCall, IsCoherent, IsCoherentTold, IsStatement, depth_left}
-use Rattle.object_arena.specs.Every.{classes_of}
 use Rattle.session_parts.specs.Depths.{HasDepth, StaysAt}
 use Rattle.session_scopes.specs.SessionState.{AreAlikeButNotes, IsInStep, SessionState, with_note, with_notes}
 use Rattle.session_calls.specs.Calling.{IsNotedCall, IsSessionCall}
+use Rattle.session_calls.proofs.Joining.{goes_alike}
 
 -- ---- what is told
 
@@ -102,7 +102,7 @@ stated_call moment m statement {own = own} {now = now} {old = old} {new = new} {
     record {
       step = on_keeper_noted {note = with_notes} (Noted (noted_as (λ x. x) m statement own now r sends is)) call.step;
       kept = record {
-        same = record { mapping = ap (λ (s : SessionState). s.mapping) alike; classes = ap (λ (s : SessionState). classes_of s.graph) alike; drawn = omega (arith, ap (λ (s : SessionState). s.drawn.drawn) alike) };
+        same = goes_alike own now alike;
         in_step = deep_still r (length now.frames.scopes) (moment old) (moment new) (in_step.0, in_step.1 ∙ sym (ap (λ (s : SessionState). length s.frames.scopes) alike)) (parts call.step).keeps.attached call.depth;
       };
     }

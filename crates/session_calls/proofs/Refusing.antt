@@ -41,10 +41,9 @@ pub entered_begun : (own now : SessionState) (r : Result (Unit {0}) Refusal) →
 entered_begun own now (Ok u) outside begun = begun ∙ ap (λ (b : Bool). record own { frames = if b then own.frames else (session_begun own).frames; notes = now.notes }) (sym outside)
 entered_begun own now (Err e) outside begun = tt
 
-pub begun_alike : (own mid now : SessionState) (r : Result (Unit {0}) Refusal) → AreAlikeButNotes own mid → OnOk r (now ≡ session_begun mid) → OnOk r (AreAlikeButNotes (session_begun own) now)
-begun_alike own mid now (Ok u) alike is =
+pub begun_alike : (own mid now : SessionState) → AreAlikeButNotes own mid → now ≡ session_begun mid → AreAlikeButNotes (session_begun own) now
+begun_alike own mid now alike is =
     subst (λ (s : SessionState). AreAlikeButNotes (session_begun s) now) alike (is ∙ ap (λ (s : SessionState). record (session_begun mid) { notes = s.notes }) (sym is))
-begun_alike own mid now (Err e) alike is = tt
 
 -- no rollback was awaited before
 pub none_awaited : (own mid : SessionState) → AreAlikeButNotes (entered own) mid → mid.failed ≡ false → pending_fault own ≡ None

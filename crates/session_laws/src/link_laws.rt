@@ -1,6 +1,6 @@
-//! Laws of the links of objects. Each is the contract of a function that does nothing.
+//! Laws of the links of objects. Each is the contract of a function that does nothing. A session puts in the links of the same change
+//! one by one, so what is said here of a link that is set, of a member that is appended or taken out, holds of the session's calls too.
 
-ghost use Rattle.session_laws.specs.Links.Changing.{AppendIsChange, RemoveIsChange, SetIsChange};
 ghost use Rattle.session_laws.specs.Links.Links.{AppendAdds, AppendKeepsRest, AppendMarksOrphans, AppendRepeatsNone, AppendTells, RemoveKeepsRest, RemoveMarksOrphans, RemoveRepeatsNone, RemoveTakesOut, RemoveTells, SetKeepsRest, SetMarksOrphans, SetMirrors, SetRepeatsNone, SetTells};
 
 /// A many-to-one link is set to a parent or to none: it leads there then, the collection of a known old parent lacks the child,
@@ -40,13 +40,4 @@ pub fn links_alone_change()
     ensures set { SetKeepsRest }
     ensures append { AppendKeepsRest }
     ensures remove { RemoveKeepsRest }
-{}
-
-/// What each of these calls makes of the objects is the change that is found for it beforehand, and each is refused where none is
-/// found. A session puts in the links of that change one by one; so what is said here of a link that is set, of a member that is
-/// appended or taken out, holds of the session's calls too.
-pub fn calls_change_what_is_found()
-    ensures set { SetIsChange }
-    ensures append { AppendIsChange }
-    ensures remove { RemoveIsChange }
 {}

@@ -1,5 +1,5 @@
 -- Links that are put in one by one leave all objects standing, with as many links.
-use Rattle.std.proofs.Common.{◌≡◌, ◌≢◌, ℕ, Bool, true, false, not, length, get_or, Option, None, Some, refl, sym, ap, ◌∙◌, subst, ⊎_elim, arith}
+use Rattle.std.proofs.Common.{◌≡◌, ◌≢◌, ℕ, Bool, length, get_or, Option, None, Some, refl, sym, ap, ◌∙◌, subst, ⊎_elim, arith}
 use Rattle.std.specs.Prelude.{slice_set}
 use Rattle.std.proofs.lemmas.Bool.{cases_eq}
 use Rattle.std.proofs.lemmas.List.{get_or-set_other, get_or-set_same, length-set}
@@ -16,36 +16,7 @@ use Rattle.session_objects.specs.Taking.{is_inside}
 use Rattle.session_objects.proofs.JoiningLemmas.{StandAlike}
 use Rattle.session_objects.proofs.OutsiderLemmas.{StayInside}
 use Rattle.session_scopes.specs.SessionState.{SameObjects, SessionState}
-use Rattle.object_records.specs.Same.{same_bool, same_object}
-use Rattle.object_records.proofs.Differing.{differs_as}
 use Rattle.session_links.specs.Relinked.{IsRelinked}
-
--- ---- whether an object differs by its orphan mark
-
-as_same : (a b : Bool) → a ≡ b → same_bool a b ≡ true
-as_same true b is = sym is
-as_same false b is = ap not (sym is)
-
-same_as : (a b : Bool) → same_bool a b ≡ true → a ≡ b
-same_as true b h = sym h
-same_as false true h = absurd cc
-same_as false false h = refl
-
-orphan_differs : (o : Object) (orphan : Bool) → not (same_bool o.orphan orphan) ≡ not (same_object o (record o { orphan = orphan }))
-orphan_differs o orphan =
-    differs_as o (record o { orphan = orphan }) (same_bool o.orphan orphan)
-    (λ h. ap (λ (b : Bool). record o { orphan = b }) (same_as o.orphan orphan h))
-    (λ same. as_same o.orphan orphan (ap (λ (x : Object). x.orphan) same))
-
-twice_not : (b : Bool) → b ≡ not (not b)
-twice_not true = refl
-twice_not false = refl
-
-pub orphan_stays : (o : Object) (orphan : Bool) → o.orphan ≡ true → not orphan ≡ not (same_object o (record o { orphan = orphan }))
-orphan_stays o orphan is = ap (λ (b : Bool). not (same_bool b orphan)) (sym is) ∙ orphan_differs o orphan
-
-pub orphan_comes : (o : Object) (orphan : Bool) → o.orphan ≡ false → orphan ≡ not (same_object o (record o { orphan = orphan }))
-orphan_comes o orphan is = twice_not orphan ∙ ap (λ (b : Bool). not (same_bool b orphan)) (sym is) ∙ orphan_differs o orphan
 
 -- ---- what stays
 

@@ -1,4 +1,3 @@
-pub mod Putting
 pub mod Relinked
 pub mod Linking
 pub mod Reading

@@ -1,16 +1,15 @@
 -- What becomes of a session where one link of an object is changed, and why it is not.
-use Rattle.std.specs.Prelude.{Bool, true, false, ◌&&◌, List, [], Option, None, Some, is_some, Result, Ok, Err, if◌then◌else◌}
+use Rattle.std.specs.Prelude.{Bool, ◌&&◌, List, [], Option, None, Some, is_some, Result, Ok, Err, if◌then◌else◌}
 use Rattle.base_core.specs.declared.ids.ObjId.{ObjId}
 use Rattle.base_core.specs.declared.ids.RelNo.{RelNo}
 use Rattle.base_core.specs.declared.refusal.Refusal.{Refusal}
-use Rattle.base_core.specs.declared.refusal.Refusal.TheVariants.{InvalidRequestError, NotBuilt}
+use Rattle.base_core.specs.declared.refusal.Refusal.TheVariants.{NotBuilt}
 use Rattle.object_arena.specs.Fit.{relation_of}
 use Rattle.object_arena.specs.Graph.{either_fault, object_at, with_link}
 use Rattle.relations.specs.declared.calls.LinkCall.{LinkCall}
-use Rattle.relations.specs.declared.calls.LinkCall.TheVariants.{Set, Append, Remove}
 use Rattle.relations.specs.declared.change.Change.{Change}
 use Rattle.relations.specs.declared.change.LinkPut.{LinkPut}
-use Rattle.relations.specs.Calls.{end_of, is_of_collection, link_change}
+use Rattle.relations.specs.Calls.{child_of, end_of, is_of_collection, link_change}
 use Rattle.relations.specs.Mirror.{is_unloaded, link_at, with_orphan}
 use Rattle.session_scopes.specs.SessionState.{SessionState, with_graph}
 use Rattle.session_calls.specs.Parts.{fault_if}
@@ -33,12 +32,6 @@ session_orphaned object (Some orphan) session = with_graph (with_orphan session.
 abbrev pub session_linked : ObjId → Change → SessionState → SessionState
 session_linked child change session = session_put change.own (session_put change.joined (session_put change.left (session_orphaned child change.orphan session)))
 
--- the object that a change of its parent may make an orphan: the owner of a many-to-one link, else the member
-abbrev pub child_of : ObjId → LinkCall → ObjId
-child_of owner (Set parent) = owner
-child_of owner (Append member) = member
-child_of owner (Remove member) = member
-
 -- ---- the objects that come in
 
 -- the owner is in the session, and what is linked to it comes in with it
@@ -58,10 +51,6 @@ abbrev pub coming_along : SessionState → ObjId → RelNo → LinkCall → Chan
 coming_along session owner place call change = coming_if (is_some change.joined) session owner place call
 
 -- ---- the call
-
-abbrev pub is_request : Refusal → Bool
-is_request (InvalidRequestError kind) = true
-is_request e = false
 
 -- the members of a collection that is not loaded are to be read first, which is not built
 abbrev pub unread_fault : SessionState → ObjId → RelNo → LinkCall → Option Refusal

@@ -16,7 +16,7 @@ ghost use Rattle.session_scopes.specs.SessionState.{IsInStep, SameObjects};
 ghost use Rattle.session_calls.specs.Calling.{IsSessionCall};
 ghost use Rattle.session_calls.specs.Refusals.{IsRefused};
 ghost use Rattle.session_calls.specs.Steps.{pending_fault};
-ghost use Rattle.session_objects.specs.Steps.{IsRefusedInside};
+ghost use Rattle.session_objects.specs.Steps.{IsDoneInside};
 ghost use Rattle.session_objects.specs.Taking.{AreOnce, MayComeIn, outsiders, session_joined};
 ghost use Rattle.session_links.specs.Linking as spec;
 ghost use Rattle.session_links.specs.Relinked.{IsRelinked};
@@ -30,6 +30,7 @@ use relations::{Change, LinkCall, is_unloaded, link_change};
 use session_calls::enter;
 use session_objects::{coming_objects, conflict_fault, is_inside, take_all};
 use session_scopes::Session;
+use std::alloc::AllocError;
 
 /// Sets a many-to-one link of an object to another object or to none, appends a member to a collection, or takes one out. Both sides
 /// change at once. Where the owner is in the session and the relationship has save-update, an object that joins comes into the
@@ -65,44 +66,29 @@ pub fn change_link<K: Keeper>(
         (spec.change_fault owner relation call session.old) session.old e session.new) }
 {
     enter(session, keeper)?;
-    change_inside(session, keeper, owner, relation, call)
+    change_inside(session, owner, relation, call)
 }
 
 /// What is done in the transaction.
-fn change_inside<K: Keeper>(
+fn change_inside(
     session: &mut Session,
-    keeper: &K,
     owner: ObjId,
     relation: RelNo,
     call: LinkCall,
 ) -> Result<(), Refusal>
-    requires in_step { IsInStep session.old (K.moment keeper.now) }
     requires owner { IsObject session.old.graph owner }
     requires relation { relation.0
         < length (relations_of session.old.mapping (object_at session.old.graph owner).class) }
     requires form { (relation_of session.old.mapping (object_at session.old.graph owner).class relation).many
         ≡ is_of_collection call }
     requires end { IsEnd session.old.graph (end_of call) }
-    ensures call { IsSessionCall K.moment (λ u. u) (steps.change_inside owner relation call)
-        (session.old, keeper.now) result (session.new, keeper.now) }
-    ensures refused { IfErr result (λ e. IsRefusedInside
-        (spec.change_fault owner relation call session.old) session.old e session.new) }
+    ensures done { IsDoneInside (spec.change_fault owner relation call session.old)
+        (spec.session_changed owner relation call session.old) session.old result session.new }
+    ensures same { SameObjects session.old session.new }
+    ensures scopes { length session.new.frames.scopes ≡ length session.old.frames.scopes }
 {
-    match change_of(session, owner, relation, call) {
-        Ok(change) => change_links(session, keeper, owner, relation, call, change),
-        Err(refusal) => {
-            if is_request(&refusal) {
-                return Err(refusal);
-            }
-            Err(Refusal::Memory)
-        }
-    }
-}
-
-fn is_request(refusal: &Refusal) -> bool
-    ensures { result ≡ spec.is_request refusal.now }
-{
-    matches!(refusal, Refusal::InvalidRequestError(_))
+    let change = change_of(session, owner, relation, call)?;
+    change_links(session, owner, relation, call, change)
 }
 
 /// Which links change.
@@ -137,15 +123,13 @@ fn change_of(
 }
 
 /// Changes links that can change, unless something is against what comes in with them.
-fn change_links<K: Keeper>(
+fn change_links(
     session: &mut Session,
-    keeper: &K,
     owner: ObjId,
     relation: RelNo,
     call: LinkCall,
     change: Change,
 ) -> Result<(), Refusal>
-    requires in_step { IsInStep session.old (K.moment keeper.now) }
     requires owner { IsObject session.old.graph owner }
     requires relation { relation.0
         < length (relations_of session.old.mapping (object_at session.old.graph owner).class) }
@@ -153,26 +137,26 @@ fn change_links<K: Keeper>(
     requires change { link_change session.old.graph session.old.mapping owner relation call ≡ Ok change }
     requires placed { IsPlaced session.old.graph change }
     requires fits { ChangeFits session.old.mapping session.old.graph change }
-    ensures call { IsSessionCall K.moment (λ u. u) (steps.change_inside owner relation call)
-        (session.old, keeper.now) result (session.new, keeper.now) }
-    ensures refused { IfErr result (λ e. IsRefusedInside
-        (spec.change_fault owner relation call session.old) session.old e session.new) }
+    ensures done { IsDoneInside (spec.change_fault owner relation call session.old)
+        (spec.session_changed owner relation call session.old) session.old result session.new }
+    ensures same { SameObjects session.old session.new }
+    ensures scopes { length session.new.frames.scopes ≡ length session.old.frames.scopes }
 {
     let objects = coming_along(session, owner, relation, call, change.joined.is_some())?;
     let coming = objects.as_slice();
     match coming_fault(session, owner, relation, call, coming) {
         Some(fault) => Err(fault),
-        None => put_all(session, child_of(owner, call), change, coming),
+        None => Ok(put_all(session, call.child(owner), change, coming)?),
     }
 }
 
-/// The links change, and then the objects come in. The only refusal is `Memory`.
+/// The links change, and then the objects come in.
 fn put_all(
     session: &mut Session,
     child: ObjId,
     change: Change,
     objects: &[ObjId],
-) -> Result<(), Refusal>
+) -> Result<(), AllocError>
     requires child { IsObject session.old.graph child }
     requires placed { IsPlaced session.old.graph change }
     requires fits { ChangeFits session.old.mapping session.old.graph change }
@@ -182,7 +166,6 @@ fn put_all(
         ≡ session_joined objects.now (spec.session_linked child change session.old)) }
     ensures relinked { OnOk result (IsRelinked session.old.graph
         (spec.session_linked child change session.old).graph) }
-    ensures cause { IfErr result (λ e. e ≡ Memory) }
     ensures same { SameObjects session.old session.new }
     ensures scopes { session.new.frames.scopes ≡ session.old.frames.scopes }
 {
@@ -190,25 +173,15 @@ fn put_all(
     take_all(session, objects)
 }
 
-/// The object that a change of its parent may make an orphan.
-fn child_of(owner: ObjId, call: LinkCall) -> ObjId
-    ensures { result ≡ spec.child_of owner call }
-{
-    match call {
-        LinkCall::Set(_parent) => owner,
-        LinkCall::Append(member) | LinkCall::Remove(member) => member,
-    }
-}
-
-/// The objects that come in along the side that is acted on, where a collection is joined or is not; but for those that are in the
-/// session already, since nothing becomes of them. The only refusal is `Memory`.
+/// The objects that come in along the side that is acted on, where a collection is joined or is not; but for those that are in
+/// the session already, since nothing becomes of them.
 fn coming_along(
     session: &Session,
     owner: ObjId,
     relation: RelNo,
     call: LinkCall,
     joins: bool,
-) -> Result<ObjList, Refusal>
+) -> Result<ObjList, AllocError>
     requires owner { IsObject session.now.graph owner }
     requires relation { relation.0
         < length (relations_of session.now.mapping (object_at session.now.graph owner).class) }
@@ -216,7 +189,6 @@ fn coming_along(
     ensures objects { IfOk result (λ objects. objects ≡ outsiders session.now.graph
         (spec.coming_if joins session.now owner relation call)) }
     ensures once { IfOk result (AreOnce session.now.graph) }
-    ensures cause { IfErr result (λ e. e ≡ Memory) }
 {
     if !(joins && brings_in(session, owner, relation)) {
         return Ok(ListOf::new(session.alloc()));

@@ -1,7 +1,7 @@
 //! Links and orphan marks that are put in one by one.
 
-ghost use Rattle.std.specs.Prelude.{◌≡◌, ◌<◌, Some, length, not, IfErr, IfOk, OnOk};
-ghost use Rattle.base_core.specs.declared.refusal.Refusal.TheVariants.{Memory};
+ghost use Rattle.std.specs.Prelude.{◌≡◌, Some, OnOk};
+ghost use Rattle.class_mapping.specs.Mapped.{Mapped};
 ghost use Rattle.object_arena.specs.Every.{classes_of};
 ghost use Rattle.object_arena.specs.Fit.{IsFit};
 ghost use Rattle.object_arena.specs.Graph.{IsObject};
@@ -9,19 +9,18 @@ ghost use Rattle.relations.specs.Fits.{ChangeFits, PutFits};
 ghost use Rattle.relations.specs.Mirror.{with_orphan, with_put};
 ghost use Rattle.relations.specs.Places.{IsPlaced, IsPutIn};
 ghost use Rattle.session_scopes.specs.SessionState.{SameObjects};
-ghost use Rattle.object_records.specs.Same.{same_object};
 ghost use Rattle.object_records.specs.Touched.{frames_touched_between};
 ghost use Rattle.session_links.specs.Linking as spec;
-ghost use Rattle.session_links.specs.Putting as putting;
 ghost use Rattle.session_links.specs.Relinked.{IsRelinked};
 
-use base_core::{Copied, ObjId, Refusal, RelNo};
+use base_core::ObjId;
 use class_mapping::Mapping;
-use object_arena::{Arena, Link, Object};
-use object_records::{same_object, touch_if};
+use object_arena::Arena;
+use object_records::{touch_for_link, touch_for_orphan};
 use relations::{Change, LinkPut};
 use savepoints::Frames;
 use session_scopes::{ObjectStep, Session};
+use std::alloc::AllocError;
 
 /// A link is put in the place of another.
 #[derive(Drop)]
@@ -44,8 +43,8 @@ impl ObjectStep for PutLink {
         mapping: &Mapping,
         arena: &mut Arena,
         frames: &mut Frames,
-    ) -> Result<(), Refusal> {
-        put_in(mapping, arena, frames, self.put)
+    ) -> Result<(), AllocError> {
+        put_in(arena, frames, self.put)
     }
 }
 
@@ -70,97 +69,59 @@ impl ObjectStep for PutOrphan {
         mapping: &Mapping,
         arena: &mut Arena,
         frames: &mut Frames,
-    ) -> Result<(), Refusal> {
+    ) -> Result<(), AllocError> {
         let PutOrphan { object, orphan } = self;
-        mark_orphan(mapping, arena, frames, object, orphan)
+        mark_orphan(arena, frames, object, orphan)
     }
 }
 
-/// A link is put in the place of another; its object is touched where it comes to differ. The only refusal is `Memory`.
-fn put_in(
-    mapping: &Mapping,
-    arena: &mut Arena,
-    frames: &mut Frames,
-    put: LinkPut,
-) -> Result<(), Refusal>
-    requires fit { IsFit mapping.now arena.old }
-    requires placed { IsPutIn arena.old (Some put) }
-    requires fits { PutFits mapping.now arena.old (Some put) }
+/// A link is put in the place of another; its object is touched where it comes to differ.
+fn put_in(arena: &mut Arena, frames: &mut Frames, put: LinkPut) -> Result<(), AllocError>
+    requires { IsPutIn arena.old (Some put) }
     ensures ok { OnOk result (arena.new ≡ with_put arena.old (Some put)) }
     ensures touched { OnOk result (frames.new
         ≡ frames_touched_between arena.old arena.new frames.old) }
-    ensures cause { IfErr result (λ e. e ≡ Memory) }
-    ensures kept { IsFit mapping.now arena.new }
+    ensures keeps { (mapped : Mapped) → PutFits mapped arena.old (Some put)
+        → IsFit mapped arena.old → IsFit mapped arena.new }
     ensures classes { classes_of arena.new ≡ classes_of arena.old }
     ensures scopes { frames.new.scopes ≡ frames.old.scopes }
 {
-    let LinkPut {
-        object,
-        relation,
-        link,
-    } = put;
-    let differs = differs_with(arena.object(object), relation, &link)?;
-    touch_if(frames, arena, object, differs)?;
-    arena.put_link(object, relation, link)
+    touch_for_link(frames, arena, put.object, put.relation, &put.link)?;
+    relations::put_link(arena, put);
+    Ok(())
 }
 
-/// Whether an object differs with another link at a place. The only refusal is `Memory`.
-fn differs_with(object: &Object, relation: RelNo, link: &Link) -> Result<bool, Refusal>
-    requires { relation.0 < length object.now.links }
-    ensures differs { IfOk result (λ differs. differs
-        ≡ not (same_object object.now (putting.linked_object object.now relation link.now))) }
-    ensures cause { IfErr result (λ e. e ≡ Memory) }
-{
-    let mut other = object.copied()?;
-    let _before = other.links.replace(relation.0 as usize, link.copied()?);
-    Ok(!same_object(object, &other))
-}
-
-/// An object is an orphan then or is none; it is touched where that changes. The only refusal is `Memory`.
+/// An object is an orphan then or is none; it is touched where that changes.
 fn mark_orphan(
-    mapping: &Mapping,
     arena: &mut Arena,
     frames: &mut Frames,
     object: ObjId,
     orphan: bool,
-) -> Result<(), Refusal>
-    requires fit { IsFit mapping.now arena.old }
-    requires object { IsObject arena.old object }
+) -> Result<(), AllocError>
+    requires { IsObject arena.old object }
     ensures ok { OnOk result (arena.new ≡ with_orphan arena.old object (Some orphan)) }
     ensures touched { OnOk result (frames.new
         ≡ frames_touched_between arena.old arena.new frames.old) }
-    ensures cause { IfErr result (λ e. e ≡ Memory) }
-    ensures kept { IsFit mapping.now arena.new }
+    ensures keeps { (mapped : Mapped) → IsFit mapped arena.old → IsFit mapped arena.new }
     ensures classes { classes_of arena.new ≡ classes_of arena.old }
     ensures scopes { frames.new.scopes ≡ frames.old.scopes }
 {
-    let (differs, added, marked) = {
-        let record = arena.object(object);
-        (
-            differs_by_orphan(record, orphan),
-            record.added,
-            record.marked,
-        )
-    };
-    touch_if(frames, arena, object, differs)?;
-    arena.put_marks(object, added, marked, orphan)
+    touch_for_orphan(frames, arena, object, orphan)?;
+    relations::put_orphan(arena, object, orphan);
+    Ok(())
 }
 
-/// Whether an object differs by its orphan mark.
-fn differs_by_orphan(object: &Object, orphan: bool) -> bool
-    ensures { result ≡ not (same_object object.now (record object.now { orphan = orphan })) }
-{
-    if object.orphan { !orphan } else { orphan }
-}
-
-/// Links change one after another, and a child is an orphan then or is none. The only refusal is `Memory`.
-pub(crate) fn put_change(session: &mut Session, child: ObjId, change: Change) -> Result<(), Refusal>
+/// Links change one after another, and a child is an orphan then or is none.
+pub(crate) fn put_change(
+    session: &mut Session,
+    child: ObjId,
+    change: Change,
+) -> Result<(), AllocError>
     requires child { IsObject session.old.graph child }
     requires placed { IsPlaced session.old.graph change }
     requires fits { ChangeFits session.old.mapping session.old.graph change }
     ensures ok { OnOk result (session.new ≡ spec.session_linked child change session.old) }
     ensures relinked { OnOk result (IsRelinked session.old.graph session.new.graph) }
-    ensures cause { IfErr result (λ e. e ≡ Memory) }
     ensures same { SameObjects session.old session.new }
     ensures scopes { session.new.frames.scopes ≡ session.old.frames.scopes }
 {
@@ -176,13 +137,12 @@ pub(crate) fn put_change(session: &mut Session, child: ObjId, change: Change) ->
     put_link(session, own)
 }
 
-/// A link is put in, if there is one. The only refusal is `Memory`.
-fn put_link(session: &mut Session, put: Option<LinkPut>) -> Result<(), Refusal>
+/// A link is put in, if there is one.
+fn put_link(session: &mut Session, put: Option<LinkPut>) -> Result<(), AllocError>
     requires placed { IsPutIn session.old.graph put }
     requires fits { PutFits session.old.mapping session.old.graph put }
     ensures ok { OnOk result (session.new ≡ spec.session_put put session.old) }
     ensures relinked { OnOk result (IsRelinked session.old.graph session.new.graph) }
-    ensures cause { IfErr result (λ e. e ≡ Memory) }
     ensures same { SameObjects session.old session.new }
     ensures scopes { session.new.frames.scopes ≡ session.old.frames.scopes }
 {
@@ -192,12 +152,11 @@ fn put_link(session: &mut Session, put: Option<LinkPut>) -> Result<(), Refusal>
     }
 }
 
-/// An object is an orphan then or is none, where that changes. The only refusal is `Memory`.
-fn put_orphan(session: &mut Session, object: ObjId, orphan: Option<bool>) -> Result<(), Refusal>
+/// An object is an orphan then or is none, where that changes.
+fn put_orphan(session: &mut Session, object: ObjId, orphan: Option<bool>) -> Result<(), AllocError>
     requires { IsObject session.old.graph object }
     ensures ok { OnOk result (session.new ≡ spec.session_orphaned object orphan session.old) }
     ensures relinked { OnOk result (IsRelinked session.old.graph session.new.graph) }
-    ensures cause { IfErr result (λ e. e ≡ Memory) }
     ensures same { SameObjects session.old session.new }
     ensures scopes { session.new.frames.scopes ≡ session.old.frames.scopes }
 {

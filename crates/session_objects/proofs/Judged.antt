@@ -17,7 +17,7 @@ use Rattle.session_scopes.specs.SessionState.{IsInStep, SessionState}
 use Rattle.session_calls.specs.Calling.{IsSessionCall}
 use Rattle.session_calls.specs.Parts.{World}
 use Rattle.session_calls.specs.Steps as calls
-use Rattle.session_calls.proofs.Joining.{err_call, fails, passes, same_itself, stays_there, then_call}
+use Rattle.session_calls.proofs.Joining.{err_call, fails, passes, goes_itself, stays_there, then_call}
 use Rattle.session_objects.specs.ValueSteps.{cell_kept, given_fault, made_unless, set_inside, set_judged, set_valid, valid_made, value_invalid}
 
 -- ---- objects are made
@@ -42,7 +42,7 @@ is_made rules class given session now r none quiet = subst (λ f. IsQuiet (λ (o
 pub full_call : {A X K : Type 0} (moment : K → Moment Store) {v : X → A} {m : World → Run World A} {own : SessionState} {keeper : K} → IsInStep own (moment keeper) → IsSessionCall moment v m (own, keeper) (Err Memory) (own, keeper)
 full_call {X = X} moment {own = own} {keeper = keeper} in_step = record {
   step = no_memory;
-  kept = record { same = same_itself own; in_step = stays_there {X = X} (Err Memory) (length own.frames.scopes) (moment keeper) in_step };
+  kept = record { same = goes_itself own; in_step = stays_there {X = X} (Err Memory) (length own.frames.scopes) (moment keeper) in_step };
 }
 
 module _ {K : Type 0} (moment : K → Moment Store) (object : ObjId) (attr : AttrNo) (value : Value) where

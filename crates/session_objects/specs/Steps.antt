@@ -1,8 +1,10 @@
 -- The calls that bring objects into a session, as programs of the store and of the session beside it.
-use Rattle.std.specs.Prelude.{◌≡◌, ◌⊎◌, Option, Some, true}
+use Rattle.std.specs.Prelude.{◌≡◌, ◌⊎◌, Option, None, Some, Result, Ok, Err}
 use Rattle.base_core.specs.declared.ids.ObjId.{ObjId}
 use Rattle.base_core.specs.declared.refusal.Refusal.{Refusal}
-use Rattle.keeper_core.specs.Programs.{Run, ends_early, ◌>>=◌}
+use Rattle.base_core.specs.declared.refusal.Refusal.TheVariants.{Memory}
+use Rattle.keeper_core.specs.Alone.{IsOwn}
+use Rattle.keeper_core.specs.Programs.{Run, ◌>>=◌}
 use Rattle.keeper_core.specs.Beside.{changes}
 use Rattle.session_scopes.specs.SessionState.{SessionState}
 use Rattle.session_calls.specs.Parts.{World, checked}
@@ -18,6 +20,8 @@ add_inside object = checked (add_fault object) >>= λ u. changes (session_added 
 unfoldable pub add : ObjId → World → Run World (Unit {0})
 add object = enter >>= λ u. add_inside object
 
--- why what is done in the transaction was refused: memory ended it early, or it had the fault, and the session stays as it was
-abbrev pub IsRefusedInside : Option Refusal → SessionState → Refusal → SessionState → Type 0
-IsRefusedInside fault old e new = (ends_early e ≡ true) ⊎ ((fault ≡ Some e) × (new ≡ old))
+-- What the session alone did in the transaction: nothing was against it, and it is as it is to be; or memory ran out; or it had the
+-- fault, which is its own, and stays as it was.
+abbrev pub IsDoneInside : Option Refusal → SessionState → SessionState → Result (Unit {0}) Refusal → SessionState → Type 0
+IsDoneInside fault after old (Ok u) new = (fault ≡ None) × (new ≡ after)
+IsDoneInside fault after old (Err e) new = (e ≡ Memory) ⊎ ((fault ≡ Some e) × (new ≡ old) × IsOwn e)

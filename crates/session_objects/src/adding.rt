@@ -1,7 +1,6 @@
 //! An object comes into the session.
 
 ghost use Rattle.std.specs.Prelude.{◌≡◌, None, OnOk, IfErr, length};
-ghost use Rattle.base_core.specs.declared.refusal.Refusal.TheVariants.{Memory};
 ghost use Rattle.object_arena.specs.Graph.{IsObject};
 ghost use Rattle.session_scopes.specs.SessionState.{IsInStep, SameObjects};
 ghost use Rattle.session_calls.specs.Calling.{IsSessionCall};
@@ -19,6 +18,7 @@ use base_core::{ObjId, Refusal};
 use keeper_core::Keeper;
 use session_calls::enter;
 use session_scopes::Session;
+use std::alloc::AllocError;
 
 /// An object comes in with all that hang on it by loaded links and kept adds along relationships with save-update. Transient ones
 /// become pending: the next flush writes them, the object itself before the others, which go by number. Detached ones become
@@ -38,33 +38,31 @@ pub fn add<K: Keeper>(session: &mut Session, keeper: &mut K, object: ObjId) -> R
         (add_fault object session.old) session.old e session.new) }
 {
     enter(session, keeper)?;
-    add_inside(session, keeper, object)
+    add_inside(session, object)
 }
 
 /// What is done in the transaction.
-fn add_inside<K: Keeper>(session: &mut Session, keeper: &K, object: ObjId) -> Result<(), Refusal>
-    requires in_step { IsInStep session.old (K.moment keeper.now) }
-    requires object { IsObject session.old.graph object }
-    ensures call { IsSessionCall K.moment (λ u. u) (steps.add_inside object)
-        (session.old, keeper.now) result (session.new, keeper.now) }
-    ensures refused { IfErr result (λ e. steps.IsRefusedInside
-        (add_fault object session.old) session.old e session.new) }
+fn add_inside(session: &mut Session, object: ObjId) -> Result<(), Refusal>
+    requires { IsObject session.old.graph object }
+    ensures done { steps.IsDoneInside (add_fault object session.old)
+        (spec.session_added object session.old) session.old result session.new }
+    ensures same { SameObjects session.old session.new }
+    ensures scopes { length session.new.frames.scopes ≡ length session.old.frames.scopes }
 {
     let objects = coming_objects(session, object)?;
     let coming = objects.as_slice();
     match add_fault(session, object, coming) {
         Some(fault) => Err(fault),
-        None => take_in(session, object, coming),
+        None => Ok(take_in(session, object, coming)?),
     }
 }
 
-/// The objects come in, where nothing is against it, and the one object has no delete mark then. The only refusal is `Memory`.
-fn take_in(session: &mut Session, object: ObjId, objects: &[ObjId]) -> Result<(), Refusal>
+/// The objects come in, where nothing is against it, and the one object has no delete mark then.
+fn take_in(session: &mut Session, object: ObjId, objects: &[ObjId]) -> Result<(), AllocError>
     requires object { IsObject session.old.graph object }
     requires free { spec.MayJoin session.old objects.now }
     ensures ok { OnOk result (session.new
         ≡ spec.session_unmarked object (spec.session_joined objects.now session.old)) }
-    ensures cause { IfErr result (λ e. e ≡ Memory) }
     ensures same { SameObjects session.old session.new }
     ensures scopes { length session.new.frames.scopes ≡ length session.old.frames.scopes }
 {

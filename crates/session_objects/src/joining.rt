@@ -1,23 +1,21 @@
 //! Objects come into the session, one after another.
 
-ghost use Rattle.std.specs.Prelude.{◌≡◌, IfErr, OnOk};
+ghost use Rattle.std.specs.Prelude.{◌≡◌, OnOk};
 ghost use Rattle.base_core.specs.Counts.{one_more};
-ghost use Rattle.base_core.specs.declared.refusal.Refusal.TheVariants.{Memory};
 ghost use Rattle.object_arena.specs.Graph.{IsObject, object_at};
 ghost use Rattle.session_scopes.specs.SessionState.{SameObjects};
 ghost use Rattle.session_objects.specs.Taking as spec;
 
 use crate::taking::TakeIn;
-use base_core::{ObjId, Refusal};
+use base_core::ObjId;
 use object_arena::State;
 use session_scopes::Session;
+use std::alloc::AllocError;
 
-/// Objects come in, one after another: transient ones become pending under the next add numbers, detached ones persistent. The only
-/// refusal is `Memory`.
-pub fn take_all(session: &mut Session, objects: &[ObjId]) -> Result<(), Refusal>
+/// Objects come in, one after another: transient ones become pending under the next add numbers, detached ones persistent.
+pub fn take_all(session: &mut Session, objects: &[ObjId]) -> Result<(), AllocError>
     requires { spec.MayJoin session.old objects.now }
     ensures ok { OnOk result (session.new ≡ spec.session_joined objects.now session.old) }
-    ensures cause { IfErr result (λ e. e ≡ Memory) }
     ensures same { SameObjects session.old session.new }
     ensures scopes { session.new.frames.scopes ≡ session.old.frames.scopes }
 {
@@ -27,12 +25,11 @@ pub fn take_all(session: &mut Session, objects: &[ObjId]) -> Result<(), Refusal>
     Ok(())
 }
 
-/// An object comes in. The only refusal is `Memory`.
-fn take_one(session: &mut Session, object: ObjId) -> Result<(), Refusal>
+/// An object comes in.
+fn take_one(session: &mut Session, object: ObjId) -> Result<(), AllocError>
     requires object { IsObject session.old.graph object }
     requires free { spec.MayReturn session.old.graph object }
     ensures ok { OnOk result (session.new ≡ spec.session_taken object session.old) }
-    ensures cause { IfErr result (λ e. e ≡ Memory) }
     ensures same { SameObjects session.old session.new }
     ensures scopes { session.new.frames.scopes ≡ session.old.frames.scopes }
 {

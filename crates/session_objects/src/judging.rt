@@ -1,9 +1,8 @@
 //! Whether values are taken by validators, and which attributes are discriminators.
 
-ghost use Rattle.std.specs.Prelude.{◌≡◌, true, IfErr, IfOk, IfSome};
+ghost use Rattle.std.specs.Prelude.{◌≡◌, true, IfOk, IfSome};
 ghost use Rattle.std.specs.List.{All, list_any};
 ghost use Rattle.std.specs.Option.{option_copied};
-ghost use Rattle.base_core.specs.declared.refusal.Refusal.TheVariants.{Memory};
 ghost use Rattle.class_types.specs.Shown.{rules_of};
 ghost use Rattle.class_mapping.specs.Mapped.{IsAttribute, IsClass};
 ghost use Rattle.keeper_core.specs.Alone.{IsOwn};
@@ -14,22 +13,21 @@ use base_core::{AttrNo, ClassId, Copied, Name, Refusal, RequestKind, Value};
 use class_mapping::Mapping;
 use class_types::{Attribute, Hooks};
 use object_parts::first_refusing;
+use std::alloc::AllocError;
 
-/// Why a value is not given to an attribute of a class: the first validator that does not take it. The only refusal is `Memory`.
+/// Why a value is not given to an attribute of a class: the first validator that does not take it.
 pub(crate) fn invalid_fault(
     mapping: &Mapping,
     hooks: &Hooks,
     class: ClassId,
     attr: AttrNo,
     value: &Value,
-) -> Result<Option<Refusal>, Refusal>
-    requires configured { mapping.now.configured ≡ true }
+) -> Result<Option<Refusal>, AllocError>
     requires class { IsClass mapping.now class }
     requires attr { IsAttribute mapping.now class attr }
     ensures fault { IfOk result (λ fault. fault
         ≡ spec.invalid_fault (rules_of hooks.now) mapping.now class attr value.now) }
     ensures own { IfOk result (λ fault. IfSome fault IsOwn) }
-    ensures cause { IfErr result (λ e. e ≡ Memory) }
 {
     let name = &mapping.attributes(class)[attr.0 as usize].name;
     match first_refusing(hooks, mapping.validators(class), name, value) {
@@ -41,20 +39,18 @@ pub(crate) fn invalid_fault(
     }
 }
 
-/// Why values are not given to attributes of a class: the first of them that is not taken. The only refusal is `Memory`.
+/// Why values are not given to attributes of a class: the first of them that is not taken.
 fn first_invalid(
     mapping: &Mapping,
     hooks: &Hooks,
     class: ClassId,
     given: &[(AttrNo, Value)],
-) -> Result<Option<Refusal>, Refusal>
-    requires configured { mapping.now.configured ≡ true }
+) -> Result<Option<Refusal>, AllocError>
     requires class { IsClass mapping.now class }
     requires attributes { All (λ one. IsAttribute mapping.now class one.0) given.now }
     ensures fault { IfOk result (λ fault. fault
         ≡ spec.first_invalid (rules_of hooks.now) mapping.now class given.now) }
     ensures own { IfOk result (λ fault. IfSome fault IsOwn) }
-    ensures cause { IfErr result (λ e. e ≡ Memory) }
 {
     for one in given {
         if let Some(fault) = invalid_fault(mapping, hooks, class, one.0, &one.1)? {
@@ -75,7 +71,6 @@ fn is_named_by(name: &Option<Name>, attribute: Option<&Attribute>) -> bool
 
 /// Whether an attribute of a class tells the classes of its hierarchy apart.
 pub(crate) fn is_discriminator(mapping: &Mapping, class: ClassId, attr: AttrNo) -> bool
-    requires configured { mapping.now.configured ≡ true }
     requires class { IsClass mapping.now class }
     ensures { result ≡ spec.is_discriminator mapping.now class attr }
 {
@@ -89,7 +84,6 @@ pub(crate) fn is_discriminator(mapping: &Mapping, class: ClassId, attr: AttrNo) 
 
 /// Whether one of some values is for the discriminator.
 fn sets_discriminator(mapping: &Mapping, class: ClassId, given: &[(AttrNo, Value)]) -> bool
-    requires configured { mapping.now.configured ≡ true }
     requires class { IsClass mapping.now class }
     ensures { result ≡ list_any (λ one. spec.is_discriminator mapping.now class one.0) given.now }
 {
@@ -101,21 +95,19 @@ fn sets_discriminator(mapping: &Mapping, class: ClassId, given: &[(AttrNo, Value
     false
 }
 
-/// Why an object of a class is not made with these values: a validator does not take one of them, or one is for the discriminator. The
-/// only refusal is `Memory`.
+/// Why an object of a class is not made with these values: a validator does not take one of them, or one is for the
+/// discriminator.
 pub(crate) fn given_fault(
     mapping: &Mapping,
     hooks: &Hooks,
     class: ClassId,
     given: &[(AttrNo, Value)],
-) -> Result<Option<Refusal>, Refusal>
-    requires configured { mapping.now.configured ≡ true }
+) -> Result<Option<Refusal>, AllocError>
     requires class { IsClass mapping.now class }
     requires attributes { All (λ one. IsAttribute mapping.now class one.0) given.now }
     ensures fault { IfOk result (λ fault. fault
         ≡ steps.given_fault (rules_of hooks.now) mapping.now class given.now) }
     ensures own { IfOk result (λ fault. IfSome fault IsOwn) }
-    ensures cause { IfErr result (λ e. e ≡ Memory) }
 {
     match first_invalid(mapping, hooks, class, given)? {
         Some(fault) => Ok(Some(fault)),

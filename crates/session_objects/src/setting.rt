@@ -19,6 +19,7 @@ use class_types::Hooks;
 use keeper_core::Keeper;
 use session_calls::{enter, set_cell};
 use session_scopes::Session;
+use std::alloc::AllocError;
 
 /// Makes a transient object of a class with these values; its other cells are NULL. Where it is made, each validator of each of
 /// these attributes takes the value.
@@ -87,21 +88,20 @@ pub fn set_valid<K: Keeper>(
     }
 }
 
-/// Why a value is not given to a cell of an object: the first validator that does not take it. The only refusal is `Memory`.
+/// Why a value is not given to a cell of an object: the first validator that does not take it.
 fn value_invalid(
     session: &Session,
     hooks: &Hooks,
     object: ObjId,
     attr: AttrNo,
     value: &Value,
-) -> Result<Option<Refusal>, Refusal>
+) -> Result<Option<Refusal>, AllocError>
     requires object { IsObject session.now.graph object }
     requires attr { IsAttribute session.now.mapping
         (object_at session.now.graph object).class attr }
     ensures fault { IfOk result (λ fault. fault
         ≡ steps.value_invalid (rules_of hooks.now) object attr value.now session.now) }
     ensures own { IfOk result (λ fault. IfSome fault IsOwn) }
-    ensures cause { IfErr result (λ e. e ≡ Memory) }
 {
     let class = session.object(object).class;
     invalid_fault(session.mapping(), hooks, class, attr, value)

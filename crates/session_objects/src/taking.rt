@@ -1,8 +1,8 @@
 //! What becomes of an object that comes in.
 
-ghost use Rattle.std.specs.Prelude.{◌≡◌, ◌++◌, ℕ, [], IfErr, IfOk, OnOk, not, true};
-ghost use Rattle.base_core.specs.declared.refusal.Refusal.TheVariants.{Memory};
+ghost use Rattle.std.specs.Prelude.{◌≡◌, ◌++◌, ℕ, [], IfOk, OnOk, not, true};
 ghost use Rattle.object_arena.specs.declared.object.State.TheVariants.{Detached, Transient};
+ghost use Rattle.class_mapping.specs.Mapped.{Mapped};
 ghost use Rattle.object_arena.specs.Every.{classes_of};
 ghost use Rattle.object_arena.specs.Fit.{IsFit, Keeps};
 ghost use Rattle.object_arena.specs.Graph.{IsObject, object_at, with_object};
@@ -12,14 +12,14 @@ ghost use Rattle.object_records.specs.Same.{same_object};
 ghost use Rattle.object_records.specs.Touched.{frames_touched_between};
 ghost use Rattle.session_objects.specs.Taking as spec;
 
-use base_core::{AttrNo, Copied, ObjId, Refusal, Value, compare};
+use base_core::{AttrNo, Copied, ObjId, Value, compare};
 use class_mapping::Mapping;
 use object_arena::{Arena, Cell, Object, State};
 use object_records::touch_if;
 use savepoints::Frames;
 use session_parts::unmark;
 use session_scopes::{Given, ObjectStep, put_given};
-use std::alloc::Global;
+use std::alloc::{AllocError, Global};
 
 /// An object comes in, under an add number where it is transient.
 #[derive(Drop)]
@@ -42,13 +42,13 @@ impl ObjectStep for TakeIn {
         mapping: &Mapping,
         arena: &mut Arena,
         frames: &mut Frames,
-    ) -> Result<(), Refusal> {
+    ) -> Result<(), AllocError> {
         let TakeIn {
             alloc,
             object,
             number,
         } = self;
-        take_in(alloc, mapping, arena, frames, object, number)
+        Ok(take_in(alloc, mapping, arena, frames, object, number)?)
     }
 }
 
@@ -71,31 +71,25 @@ impl ObjectStep for Unmark {
         mapping: &Mapping,
         arena: &mut Arena,
         frames: &mut Frames,
-    ) -> Result<(), Refusal> {
-        take_mark(mapping, arena, frames, self.object)
+    ) -> Result<(), AllocError> {
+        take_mark(arena, frames, self.object)
     }
 }
 
-/// A delete mark is taken away; the object is touched in the innermost scope where it had one. The only refusal is `Memory`.
-fn take_mark(
-    mapping: &Mapping,
-    arena: &mut Arena,
-    frames: &mut Frames,
-    object: ObjId,
-) -> Result<(), Refusal>
-    requires fit { IsFit mapping.now arena.old }
-    requires object { IsObject arena.old object }
+/// A delete mark is taken away; the object is touched in the innermost scope where it had one.
+fn take_mark(arena: &mut Arena, frames: &mut Frames, object: ObjId) -> Result<(), AllocError>
+    requires { IsObject arena.old object }
     ensures ok { OnOk result (arena.new ≡ spec.unmarked arena.old object) }
     ensures touched { OnOk result (frames.new
         ≡ frames_touched_between arena.old arena.new frames.old) }
-    ensures cause { IfErr result (λ e. e ≡ Memory) }
-    ensures fits { IsFit mapping.now arena.new }
+    ensures keeps { (mapped : Mapped) → IsFit mapped arena.old → IsFit mapped arena.new }
     ensures classes { classes_of arena.new ≡ classes_of arena.old }
     ensures scopes { frames.new.scopes ≡ frames.old.scopes }
 {
     let is_marked = is_marked(arena.object(object));
     touch_if(frames, arena, object, is_marked)?;
-    unmark(arena, object)
+    unmark(arena, object);
+    Ok(())
 }
 
 /// Whether an object has a delete mark, without which it would differ.
@@ -105,7 +99,7 @@ fn is_marked(object: &Object) -> bool
     object.marked
 }
 
-/// An object comes in; it is touched in the innermost scope where its record comes to differ. The only refusal is `Memory`.
+/// An object comes in; it is touched in the innermost scope where its record comes to differ.
 fn take_in(
     alloc: Global,
     mapping: &Mapping,
@@ -113,8 +107,7 @@ fn take_in(
     frames: &mut Frames,
     object: ObjId,
     number: u64,
-) -> Result<(), Refusal>
-    requires configured { mapping.now.configured ≡ true }
+) -> Result<(), AllocError>
     requires fit { IsFit mapping.now arena.old }
     requires object { IsObject arena.old object }
     requires free { spec.MayReturn arena.old object }
@@ -122,7 +115,6 @@ fn take_in(
         (spec.taken_under number (object_at arena.old object))) }
     ensures touched { OnOk result (frames.new
         ≡ frames_touched_between arena.old arena.new frames.old) }
-    ensures cause { IfErr result (λ e. e ≡ Memory) }
     ensures fits { IsFit mapping.now arena.new }
     ensures classes { classes_of arena.new ≡ classes_of arena.old }
     ensures scopes { frames.new.scopes ≡ frames.old.scopes }
@@ -145,26 +137,27 @@ fn comes_to_differ(object: &Object) -> bool
     }
 }
 
-/// An object comes in. The only refusal is `Memory`.
+/// An object comes in.
 fn put_in(
     alloc: Global,
     mapping: &Mapping,
     arena: &mut Arena,
     object: ObjId,
     number: u64,
-) -> Result<(), Refusal>
-    requires configured { mapping.now.configured ≡ true }
+) -> Result<(), AllocError>
     requires fit { IsFit mapping.now arena.old }
     requires object { IsObject arena.old object }
     requires free { spec.MayReturn arena.old object }
     ensures ok { OnOk result (arena.new ≡ with_object arena.old object
         (spec.taken_under number (object_at arena.old object))) }
-    ensures cause { IfErr result (λ e. e ≡ Memory) }
     ensures fits { IsFit mapping.now arena.new }
     ensures classes { classes_of arena.new ≡ classes_of arena.old }
 {
     match arena.object(object).state {
-        State::Transient => put_pending(arena, object, number),
+        State::Transient => {
+            put_pending(arena, object, number);
+            Ok(())
+        }
         State::Detached => put_returned(alloc, mapping, arena, object),
         State::Pending => Ok(()),
         State::Persistent => Ok(()),
@@ -172,39 +165,35 @@ fn put_in(
     }
 }
 
-/// A transient object becomes pending under an add number. The only refusal is `Memory`.
-fn put_pending(arena: &mut Arena, object: ObjId, number: u64) -> Result<(), Refusal>
+/// A transient object becomes pending under an add number.
+fn put_pending(arena: &mut Arena, object: ObjId, number: u64)
     requires object { IsObject arena.old object }
     requires transient { (object_at arena.old object).state ≡ Transient }
-    ensures ok { OnOk result (arena.new ≡ with_object arena.old object
-        (spec.taken_under number (object_at arena.old object))) }
-    ensures cause { IfErr result (λ e. e ≡ Memory) }
+    ensures taken { arena.new ≡ with_object arena.old object
+        (spec.taken_under number (object_at arena.old object)) }
     ensures keeps { Keeps arena.old arena.new }
 {
     let (is_marked, is_orphan) = {
         let record = arena.object(object);
         (record.marked, record.orphan)
     };
-    arena.put_marks(object, number, is_marked, is_orphan)?;
-    arena.put_state(object, State::Pending)
+    arena.put_marks(object, number, is_marked, is_orphan);
+    arena.put_state(object, State::Pending);
 }
 
-/// A detached object becomes persistent again, without a delete mark: what was changed in it stays, and the rest is expired. The
-/// only refusal is `Memory`.
+/// A detached object becomes persistent again, without a delete mark: what was changed in it stays, and the rest is expired.
 fn put_returned(
     alloc: Global,
     mapping: &Mapping,
     arena: &mut Arena,
     object: ObjId,
-) -> Result<(), Refusal>
-    requires configured { mapping.now.configured ≡ true }
+) -> Result<(), AllocError>
     requires fit { IsFit mapping.now arena.old }
     requires object { IsObject arena.old object }
     requires detached { (object_at arena.old object).state ≡ Detached }
     requires free { IsFree arena.old object (object_at arena.old object).identity }
     ensures ok { OnOk result (arena.new ≡ with_object arena.old object
         (spec.returned_object (object_at arena.old object))) }
-    ensures cause { IfErr result (λ e. e ≡ Memory) }
     ensures fits { IsFit mapping.now arena.new }
     ensures classes { classes_of arena.new ≡ classes_of arena.old }
 {
@@ -215,12 +204,11 @@ fn put_returned(
     Ok(())
 }
 
-/// The values of cells that were changed since they were read or written, by their places. The only refusal is `Memory`, which a
-/// place past 32 bits has too.
+/// The values of cells that were changed since they were read or written, by their places. A place past 32 bits is refused as
+/// for want of memory.
 #[tactic(auto, using(crate::proofs::TakingLemmas::changes))]
-fn changed_values(alloc: Global, cells: &[Cell]) -> Result<Given, Refusal>
-    ensures ok { IfOk result (λ values. values.items ≡ spec.changed_values 0 cells.now) }
-    ensures cause { IfErr result (λ e. e ≡ Memory) }
+fn changed_values(alloc: Global, cells: &[Cell]) -> Result<Given, AllocError>
+    ensures { IfOk result (λ values. values.items ≡ spec.changed_values 0 cells.now) }
 {
     let mut values = Vec::new(alloc);
     for (place, cell) in cells.iter().enumerate() {
@@ -230,10 +218,9 @@ fn changed_values(alloc: Global, cells: &[Cell]) -> Result<Given, Refusal>
 }
 
 /// The value of a cell at a place goes behind others, if it was changed.
-fn push_changed(values: &mut Given, place: usize, cell: &Cell) -> Result<(), Refusal>
-    ensures ok { OnOk result (values.new.items
+fn push_changed(values: &mut Given, place: usize, cell: &Cell) -> Result<(), AllocError>
+    ensures { OnOk result (values.new.items
         ≡ values.old.items ++ spec.with_changed place cell.now.value cell.now.base []) }
-    ensures cause { IfErr result (λ e. e ≡ Memory) }
 {
     let Some(value) = &cell.value else {
         return Ok(());
@@ -242,7 +229,7 @@ fn push_changed(values: &mut Given, place: usize, cell: &Cell) -> Result<(), Ref
         return Ok(());
     }
     let Ok(attr) = u32::try_from(place) else {
-        return Err(Refusal::Memory);
+        return Err(AllocError);
     };
     let copy = value.copied()?;
     values.push((AttrNo(attr), copy))?;

@@ -13,8 +13,7 @@ use Rattle.keeper_core.specs.Moment.{Moment}
 use Rattle.keeper_core.specs.Beside.{on_own}
 use Rattle.keeper_core.proofs.Lifting.{chosen, quietly}
 use Rattle.keeper_core.proofs.Sequence.{done, no_memory, then_err, then_ok}
-use Rattle.session_parts.proofs.ObjectLemmas.{class_still, made_still}
-use Rattle.session_scopes.specs.SessionState.{AreThereStill, IsInStep, IsMadeOf, SameObjects, SessionState}
+use Rattle.session_scopes.specs.SessionState.{AreThereStill, IsInStep, IsMadeOf, SessionState}
 use Rattle.session_calls.specs.Calling.{IsSessionCall}
 use Rattle.session_calls.specs.Parts.{World}
 use Rattle.shell_parts.specs.declared.names.Bound.TheVariants.{Object}
@@ -27,9 +26,6 @@ use Rattle.session_perform.specs.Performing.{IsPerformed, as_it_is, nothing_told
 
 -- ---- what stays
 
-there_same : (old new : SessionState) → SameObjects old new → AreThereStill old.graph new.graph
-there_same old new same object made = (made_still old.graph new.graph object same.classes made, class_still old.graph new.graph object same.classes made)
-
 there_itself : (session : SessionState) → AreThereStill session.graph session.graph
 there_itself session object made = (made, refl)
 
@@ -41,7 +37,7 @@ pub told : {A X K : Type 0} (moment : K → Moment Store) {v : X → A} {m : Wor
 told moment tell {old = old} {new = new} there p = record {
   step = then_ok (λ a. give (tell a)) p.step (done {v = λ (a : Answer). a} refl);
   mapping = p.kept.same.mapping;
-  stay = there_same old.0 new.0 p.kept.same;
+  stay = p.kept.same.there;
   drawn = p.kept.same.drawn;
   in_step = p.kept.in_step;
   answer = there;
@@ -53,7 +49,7 @@ pub untold : {A X K : Type 0} (moment : K → Moment Store) {v : X → A} {m : W
 untold moment tell {old = old} {new = new} p = record {
   step = then_err (λ a. give (tell a)) p.step;
   mapping = p.kept.same.mapping;
-  stay = there_same old.0 new.0 p.kept.same;
+  stay = p.kept.same.there;
   drawn = p.kept.same.drawn;
   in_step = p.kept.in_step;
   answer = tt;
@@ -139,7 +135,7 @@ told_then moment {m = m} tell {own = own} {now = now} {before = before} {after =
     subst (λ (b : Answer). IsPerformed moment (m >>= λ x. as_it_is (tell x)) (own, before) (Ok b) (now, after)) (sym is) (record {
       step = then_ok (λ x. as_it_is (tell x)) p.step (chosen moment (λ session. give (tell x session)) {own = now} {now = now} {old = after} {new = after} (done {v = λ (a : Answer). a} refl));
       mapping = p.kept.same.mapping;
-      stay = there_same own now p.kept.same;
+      stay = p.kept.same.there;
       drawn = p.kept.same.drawn;
       in_step = p.kept.in_step;
       answer = there;
@@ -151,7 +147,7 @@ pub untold_then : {X K : Type 0} (moment : K → Moment Store) {m : World → Ru
 untold_then moment tell {own = own} {now = now} {before = before} {after = after} p = record {
   step = then_err (λ x. as_it_is (tell x)) p.step;
   mapping = p.kept.same.mapping;
-  stay = there_same own now p.kept.same;
+  stay = p.kept.same.there;
   drawn = p.kept.same.drawn;
   in_step = p.kept.in_step;
   answer = tt;
@@ -164,7 +160,7 @@ full_then moment {m = m} next {own = own} {now = now} {before = before} {after =
     subst (λ (d : Refusal). IsPerformed moment (m >>= next) (own, before) (Err d) (now, after)) (sym is) (record {
       step = then_ok next p.step no_memory;
       mapping = p.kept.same.mapping;
-      stay = there_same own now p.kept.same;
+      stay = p.kept.same.there;
       drawn = p.kept.same.drawn;
       in_step = λ own_refusal. p.kept.in_step;
       answer = tt;

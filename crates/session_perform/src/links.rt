@@ -2,7 +2,6 @@
 
 ghost use Rattle.std.specs.Prelude.{◌≡◌, ◌<◌, length, map, IfErr, IfOk};
 ghost use Rattle.std.specs.List.{All};
-ghost use Rattle.base_core.specs.declared.refusal.Refusal.TheVariants.{Memory};
 ghost use Rattle.class_types.specs.Rules.{Rules};
 ghost use Rattle.class_mapping.specs.Mapped.{IsClass, relations_of};
 ghost use Rattle.object_arena.specs.Graph.{IsObject, object_at};
@@ -20,6 +19,7 @@ use keeper_core::Keeper;
 use session_links::{Related, read_related};
 use session_scopes::Session;
 use shell_parts::Bound;
+use std::alloc::AllocError;
 
 /// What a link holds: an object or none, or the members of a collection.
 ///
@@ -41,16 +41,16 @@ pub(crate) fn read_link<K: Keeper>(
         session.old (K.moment keeper.old) e session.new (K.moment keeper.new)) }
 {
     let related = read_related(session, keeper, object, relation)?;
-    link_told(session, related)
+    let told = link_told(session, related)?;
+    Ok(told)
 }
 
-/// What a link holds is told, with the classes of its objects. The only refusal is `Memory`.
-fn link_told(session: &Session, related: Related) -> Result<Answer, Refusal>
+/// What a link holds is told, with the classes of its objects.
+fn link_told(session: &Session, related: Related) -> Result<Answer, AllocError>
     requires { AreToldMade session.now.graph related }
     ensures told { IfOk result (λ a. a ≡ answer.Thing (spec.link_shown session.now.graph related)) }
     ensures there { IfOk result (λ a. IsAnswer session.now.mapping session.now.graph
         session.now.drawn.drawn (answer.Thing (spec.link_shown session.now.graph related))) }
-    ensures cause { IfErr result (λ e. e ≡ Memory) }
 {
     match related {
         Related::One(None) => Ok(Answer::Thing(Bound::Nothing)),
@@ -62,13 +62,15 @@ fn link_told(session: &Session, related: Related) -> Result<Answer, Refusal>
     }
 }
 
-/// Objects with their classes. The only refusal is `Memory`.
-fn with_classes(session: &Session, members: &[ObjId]) -> Result<ListOf<(ObjId, ClassId)>, Refusal>
+/// Objects with their classes.
+fn with_classes(
+    session: &Session,
+    members: &[ObjId],
+) -> Result<ListOf<(ObjId, ClassId)>, AllocError>
     requires { All (IsObject session.now.graph) members.now }
     ensures all { IfOk result (λ all. all ≡ map (spec.with_class session.now.graph) members.now) }
     ensures made { IfOk result (All (λ one. IsMadeOf session.now.graph one.0 one.1)) }
     ensures declared { IfOk result (All (λ one. IsClass session.now.mapping one.1)) }
-    ensures cause { IfErr result (λ e. e ≡ Memory) }
 {
     let mut all = ListOf::new(session.alloc());
     for member in members {

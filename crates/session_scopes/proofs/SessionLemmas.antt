@@ -1,13 +1,11 @@
 -- What every session keeps, as its objects change and its scopes begin and end.
-use Rattle.std.proofs.Common.{◌≡◌, ℕ, ◌-◌, ◌<◌, ◌≤◌, suc, Bool, true, false, List, [], ◌∷◌, length, drop, Result, Ok, Err, OnOk, refl, sym, ap, ◌∙◌, subst, arith, length-drop}
+use Rattle.std.proofs.Common.{◌≡◌, ℕ, ◌-◌, ◌≤◌, suc, Bool, true, false, List, [], ◌∷◌, length, drop, Result, Ok, Err, OnOk, refl, sym, ap, ◌∙◌, subst, arith, length-drop}
 use Rattle.std.specs.Prelude.{OnErr}
 use Rattle.std.specs.List.{All}
 use Rattle.std.proofs.lemmas.List.{get_or_append_left, length-append}
 use Rattle.std.proofs.lemmas.List.Elements.{All-nil}
-use Rattle.base_core.specs.Answers.{Takes}
 use Rattle.base_core.specs.declared.ids.ClassId.{ClassId}
 use Rattle.base_core.specs.declared.ids.ObjId.{ObjId}
-use Rattle.base_core.specs.declared.refusal.Refusal.{Refusal}
 use Rattle.class_mapping.specs.Mapped.{Mapped}
 use Rattle.object_arena.specs.declared.object.Object.{Object}
 use Rattle.object_arena.specs.Graph.{Graph, IsObject, fresh_object, no_object, object_at, place_of, with_fresh}
@@ -15,10 +13,10 @@ use Rattle.object_arena.specs.Fit.{IsFit}
 use Rattle.object_arena.specs.Every.{classes_of}
 use Rattle.object_arena.proofs.ClassLemmas.{classes_long}
 use Rattle.savepoints.specs.declared.scope.Scope.{Scope}
-use Rattle.savepoints.specs.Scopes.{Framed, HasKeys, around, begun_at, push, scope_limit}
+use Rattle.savepoints.specs.Scopes.{Framed, HasKeys, around, begun_at, scope_limit}
 use Rattle.savepoints.proofs.KeyLemmas.{all_kept, all_made, class_at}
 use Rattle.session_scopes.specs.Handles.{Drawn, without_innermost}
-use Rattle.session_scopes.specs.SessionState.{AreThereStill, IsMadeOf, IsSession, depth_in}
+use Rattle.session_scopes.specs.SessionState.{AreThereStill, GoesOn, IsMadeOf, IsSession, SameObjects, SessionState, depth_in}
 
 -- ---- as many handles as savepoints
 
@@ -49,7 +47,6 @@ around_long depth frames now above within is =
 pub session_with : (mapped : Mapped) (old new : Graph) (scopes left : List Scope) (failed later : Bool) (drawn now : Drawn) → IsFit mapped new → classes_of new ≡ classes_of old → All (HasKeys mapped old) left → length now.handles ≡ depth_in later left - 1
     → IsSession mapped old scopes failed drawn → IsSession mapped new left later now
 session_with mapped old new scopes left failed later drawn now fit same keys handled session = record {
-  configured = session.configured;
   fit = fit;
   keys = all_kept mapped old new left same keys;
   handled = handled;
@@ -76,32 +73,25 @@ session_deeper mapped graph old new failed drawn now is keys well handles sessio
     let long : length new.scopes ≡ suc (length old.scopes) = ap (λ (f : Framed). length f.scopes) is in
     let open_now : depth_in failed new.scopes ≡ length new.scopes = open_only failed new.scopes well in
     record {
-      configured = session.configured;
       fit = session.fit;
       keys = keys;
       handled = omega (arith, open_now, long, handles);
     }
 
--- the transaction begins, unless that is refused
-pub session_entered : (mapped : Mapped) (graph : Graph) (old new : Framed) (failed : Bool) (drawn : Drawn) (r : Result (Unit {0}) Refusal) → Takes (λ _. tt) (push graph old) old r new → OnOk r (new ≡ record old { scopes = begun_at graph ∷ old.scopes })
+-- the transaction begins, unless memory ran out
+pub session_entered : {E : Type 0} (mapped : Mapped) (graph : Graph) (old new : Framed) (failed : Bool) (drawn : Drawn) (r : Result (Unit {0}) E) → OnOk r (new ≡ record old { scopes = begun_at graph ∷ old.scopes }) → OnErr r (new ≡ old)
     → All (HasKeys mapped graph) new.scopes → failed ≡ false → old.scopes ≡ [] → IsSession mapped graph old.scopes failed drawn → IsSession mapped graph new.scopes failed drawn
-session_entered mapped graph old new failed drawn (Ok u) step is keys well outside session =
+session_entered mapped graph old new failed drawn (Ok u) is same keys well outside session =
     let none : length old.scopes ≡ 0 = ap (λ (s : List Scope). length s) outside in
     let open_now : depth_in failed old.scopes ≡ length old.scopes = open_only failed old.scopes well in
     session_deeper mapped graph old new failed drawn drawn is keys well (omega (arith, none, open_now, session.handled)) session
-session_entered mapped graph old new failed drawn (Err e) step is keys well outside session =
-    subst (λ (f : Framed). IsSession mapped graph f.scopes failed drawn) (sym step.0) session
-
--- a refusal left the scopes
-pub scopes_stay : {S : Type 0} (graph : Graph) (put : Framed → S) (old new : Framed) (r : Result (Unit {0}) Refusal) → Takes (λ _. tt) (push graph old) old r new → OnErr r (put new ≡ put old)
-scopes_stay graph put old new (Ok u) step = tt
-scopes_stay graph put old new (Err e) step = ap put step.0
+session_entered mapped graph old new failed drawn (Err e) is same keys well outside session =
+    subst (λ (f : Framed). IsSession mapped graph f.scopes failed drawn) (sym same) session
 
 -- ---- an object that is made
 
 pub session_made : (mapped : Mapped) (old new : Graph) (class : ClassId) (scopes : List Scope) (failed : Bool) (drawn : Drawn) → IsFit mapped new → new ≡ with_fresh old mapped class → IsSession mapped old scopes failed drawn → IsSession mapped new scopes failed drawn
 session_made mapped old new class scopes failed drawn fit is session = record {
-  configured = session.configured;
   fit = fit;
   keys = all_made mapped old new class scopes is session.keys;
   handled = session.handled;
@@ -129,6 +119,23 @@ there_still mapped old mid new class is same object made =
 -- the object that was made
 pub there_made : (mapped : Mapped) (mid new : Graph) (object : ObjId) (class : ClassId) → IsObject mid object → object_at mid object ≡ fresh_object mapped class → classes_of new ≡ classes_of mid → IsMadeOf new object class
 there_made mapped mid new object class made is same = there_changed mid new object class same (made, ap (λ (o : Object). o.class) is)
+
+-- ---- sessions that go on
+
+-- a step of a session that makes no object
+pub goes_on : {old new : SessionState} → SameObjects old new → GoesOn old new
+goes_on {old = old} {new = new} same = record {
+  mapping = same.mapping;
+  there = λ object made. there_changed old.graph new.graph object (object_at old.graph object).class same.classes (made, refl);
+  drawn = same.drawn;
+}
+
+pub goes_more : {old mid new : SessionState} → GoesOn old mid → GoesOn mid new → GoesOn old new
+goes_more {new = new} p q = record {
+  mapping = q.mapping ∙ p.mapping;
+  there = λ object made. let still = p.there object made in subst (λ (class : ClassId). IsMadeOf new.graph object class) still.1 (q.there object still.0);
+  drawn = omega (arith, p.drawn, q.drawn);
+}
 
 -- ---- handles
 

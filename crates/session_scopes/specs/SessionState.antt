@@ -1,5 +1,5 @@
 -- What is seen of a session that has savepoints and tells what a command did.
-use Rattle.std.specs.Prelude.{◌≡◌, ℕ, ◌+◌, ◌-◌, ◌≤◌, Bool, false, true, List, [], ◌∷◌, ◌++◌, length, map, Result, if◌then◌else◌}
+use Rattle.std.specs.Prelude.{◌≡◌, ℕ, ◌+◌, ◌-◌, ◌≤◌, Bool, false, List, [], ◌∷◌, ◌++◌, length, map, Result, if◌then◌else◌}
 use Rattle.std.specs.List.{All, flat_map}
 use Rattle.base_core.specs.declared.ids.ClassId.{ClassId}
 use Rattle.base_core.specs.declared.ids.ObjId.{ObjId}
@@ -71,10 +71,9 @@ with_notes events session = record session { notes = session.notes ++ flat_map n
 
 -- ---- what is kept
 
--- What every session keeps: its mapping is configured; its objects fit it, and had keys of their classes at each scope's start. Each
+-- What every session keeps: its objects fit its mapping, and had keys of their classes at each scope's start. Each
 -- savepoint in progress has a handle, one that failed too.
 pub record IsSession (mapped : Mapped) (graph : Graph) (scopes : List Scope) (failed : Bool) (drawn : Drawn) : Type 0 where
-  pub configured : mapped.configured ≡ true
   pub fit : IsFit mapped graph
   pub keys : All (HasKeys mapped graph) scopes
   pub handled : length drawn.handles ≡ depth_in failed scopes - 1
@@ -101,7 +100,13 @@ AreThereStill old new = (object : ObjId) → IsObject old object → IsMadeOf ne
 abbrev pub IsInStep : {W : Type 0} → SessionState → Moment W → Type 0
 IsInStep session moment = HasDepth (length session.frames.scopes) moment
 
--- what a call keeps: the mapping and the objects, and the keeper in step, unless memory or the store ended it early
+-- the mapping stays, each object is there still, of its class, and no handle fewer was drawn
+pub record GoesOn (old new : SessionState) : Type 0 where
+  pub mapping : new.mapping ≡ old.mapping
+  pub there : AreThereStill old.graph new.graph
+  pub drawn : old.drawn.drawn ≤ new.drawn.drawn
+
+-- what a call keeps: the session goes on, with the keeper in step, unless memory or the store ended it early
 pub record IsKept {A W : Type 0} (result : Result A Refusal) (old new : SessionState) (moment : Moment W) : Type 0 where
-  pub same : SameObjects old new
+  pub same : GoesOn old new
   pub in_step : StaysAt result (length new.frames.scopes) moment

@@ -1,11 +1,9 @@
 //! The handles of the savepoints in progress.
 
-ghost use Rattle.std.specs.Prelude.{◌≡◌, ◌<◌, ◌≤◌, ◌+◌, drop, length, IfErr, IfOk, IfSome, OnErr, OnOk};
-ghost use Rattle.base_core.specs.declared.refusal.Refusal.TheVariants.{Memory};
+ghost use Rattle.std.specs.Prelude.{◌≡◌, ◌<◌, ◌≤◌, ◌+◌, drop, length, IfOk, IfSome, OnErr, OnOk};
 ghost use Rattle.session_scopes.specs.Handles as spec;
 
-use base_core::Refusal;
-use std::alloc::Global;
+use std::alloc::{AllocError, Global};
 use std::marker::Model;
 
 /// The handles of the savepoints in progress. Contracts see them with the innermost first, and how many were drawn.
@@ -52,17 +50,16 @@ impl Handles {
         self.drawn
     }
 
-    /// Draws the next handle, of a savepoint inside those in progress. The only refusal is `Memory`, which numbers past 32 bits
-    /// have too, and it changes nothing.
+    /// Draws the next handle, of a savepoint inside those in progress. Numbers past 32 bits are refused as for want of memory;
+    /// a refusal changes nothing.
     #[tactic(auto, using(crate::proofs::Falling::falling))]
-    pub fn draw(&mut self) -> Result<u32, Refusal>
+    pub fn draw(&mut self) -> Result<u32, AllocError>
         ensures ok { OnOk result (self.new ≡ spec.with_next_handle self.old) }
         ensures handle { IfOk result (λ handle. handle ≡ self.old.drawn + 1) }
         ensures err { OnErr result (self.new ≡ self.old) }
-        ensures cause { IfErr result (λ e. e ≡ Memory) }
     {
         let Some(next) = self.drawn.checked_add(1) else {
-            return Err(Refusal::Memory);
+            return Err(AllocError);
         };
         self.handles.insert(0, next)?;
         self.drawn = next;

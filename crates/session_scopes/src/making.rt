@@ -1,8 +1,7 @@
 //! The values with which an object is made.
 
-ghost use Rattle.std.specs.Prelude.{◌≡◌, None, true, IfErr, IfOk, IfSome};
+ghost use Rattle.std.specs.Prelude.{◌≡◌, None, IfOk, IfSome};
 ghost use Rattle.std.specs.List.{All};
-ghost use Rattle.base_core.specs.declared.refusal.Refusal.TheVariants.{Memory};
 ghost use Rattle.class_mapping.specs.Mapped.{IsAttribute, IsClass};
 ghost use Rattle.object_arena.specs.Every.{classes_of};
 ghost use Rattle.object_arena.specs.Fit.{IsFit};
@@ -14,7 +13,7 @@ use base_core::{AttrNo, ClassId, Copied, ObjId, Refusal, Value};
 use class_mapping::Mapping;
 use object_arena::{Arena, Cell};
 use schema_core::{kind_of_value, same_kind};
-use std::alloc::Global;
+use std::alloc::{AllocError, Global};
 
 /// Values for attributes.
 pub type Given = Vec<(AttrNo, Value)>;
@@ -26,7 +25,6 @@ pub(crate) fn first_fault(
     class: ClassId,
     given: &[(AttrNo, Value)],
 ) -> Option<Refusal>
-    requires configured { mapping.now.configured ≡ true }
     requires declared { IsClass mapping.now class }
     requires attributes { All (λ one. IsAttribute mapping.now class one.0) given.now }
     ensures fault { result ≡ spec.first_given_fault mapping.now class given.now }
@@ -42,7 +40,6 @@ pub(crate) fn first_fault(
 
 /// Why a value is not taken for an attribute of a class.
 fn fault_of(mapping: &Mapping, class: ClassId, attr: AttrNo, value: &Value) -> Option<Refusal>
-    requires configured { mapping.now.configured ≡ true }
     requires declared { IsClass mapping.now class }
     requires attribute { IsAttribute mapping.now class attr }
     ensures fault { result ≡ spec.given_fault mapping.now class (attr, value.now) }
@@ -56,10 +53,9 @@ fn fault_of(mapping: &Mapping, class: ClassId, attr: AttrNo, value: &Value) -> O
     Some(Refusal::TypeMismatch(wanted, found))
 }
 
-/// A copy of values for attributes. The only refusal is `Memory`.
-pub(crate) fn copy_of(alloc: Global, given: &[(AttrNo, Value)]) -> Result<Given, Refusal>
-    ensures values { IfOk result (λ copy. copy.items ≡ given.now) }
-    ensures cause { IfErr result (λ e. e ≡ Memory) }
+/// A copy of values for attributes.
+pub(crate) fn copy_of(alloc: Global, given: &[(AttrNo, Value)]) -> Result<Given, AllocError>
+    ensures { IfOk result (λ copy. copy.items ≡ given.now) }
 {
     let mut copy = Vec::new(alloc);
     for (attr, value) in given {
@@ -100,5 +96,5 @@ fn put_one(arena: &mut Arena, mapping: &Mapping, object: ObjId, attr: AttrNo, va
         value: Some(value),
         base: None,
     };
-    let _put = arena.put_cell(object, attr, cell);
+    arena.put_cell(object, attr, cell);
 }

@@ -1,15 +1,14 @@
 //! The session, and what becomes of it as scopes begin and end and single objects change.
 
-ghost use Rattle.std.specs.Prelude.{◌≡◌, ◌<◌, ◌≤◌, ◌+◌, ◌-◌, ◌++◌, [], None, true, false, length, map, IfErr, IfOk, IfSome, OnErr, OnOk};
+ghost use Rattle.std.specs.Prelude.{◌≡◌, ◌<◌, ◌≤◌, ◌+◌, ◌-◌, ◌++◌, [], None, true, false, length, map, IfOk, IfSome, OnErr, OnOk};
 ghost use Rattle.base_core.specs.Counts.{one_more};
-ghost use Rattle.base_core.specs.declared.refusal.Refusal.TheVariants.{Memory};
 ghost use Rattle.keeper_core.specs.declared.notes.Note.TheVariants as note;
 ghost use Rattle.class_mapping.specs.Mapped.{IsAttribute, IsClass, attributes_of};
 ghost use Rattle.object_arena.specs.Fit.{IsFit};
 ghost use Rattle.object_arena.specs.Graph.{IsCell, IsObject, is_persistent, object_at, value_fault};
 ghost use Rattle.std.specs.List.{All, list_all};
 ghost use Rattle.keeper_core.specs.Alone.{IsQuiet};
-ghost use Rattle.savepoints.specs.Scopes.{no_frames, scope_limit};
+ghost use Rattle.savepoints.specs.Scopes.{scope_limit};
 ghost use Rattle.session_scopes.specs.Changes as changes;
 ghost use Rattle.session_scopes.specs.Handles.{place_of_handle};
 ghost use Rattle.session_scopes.specs.Making as making;
@@ -26,10 +25,10 @@ use object_parts::is_of_kept_key;
 use object_records::{touch_for_mark, touch_for_value};
 use savepoints::Frames;
 use session_parts::{commit_all, let_go_all};
-use std::alloc::Global;
+use std::alloc::{AllocError, Global};
 use std::marker::Model;
 
-/// A session over a configured mapping: its objects, the scopes in progress with the handles of the savepoints,
+/// A session over a mapping: its objects, the scopes in progress with the handles of the savepoints,
 /// whether a flush failed that was not rolled back yet, and what the command did so far.
 pub struct Session {
     alloc: Global,
@@ -75,7 +74,6 @@ impl Model for Session {
 impl Session {
     /// No objects and no transaction.
     pub fn new(alloc: Global, mapping: Mapping) -> Session
-        requires configured { mapping.configured ≡ true }
         ensures { result ≡ new_session mapping }
     {
         Session {
@@ -97,8 +95,7 @@ impl Session {
 
     /// The mapping.
     pub fn mapping(&self) -> &Mapping
-        ensures mapping { result.now ≡ self.now.mapping }
-        ensures configured { self.now.mapping.configured ≡ true }
+        ensures { result.now ≡ self.now.mapping }
     {
         &self.mapping
     }
@@ -174,6 +171,7 @@ impl Session {
     pub fn place_of_handle(&self, handle: u32) -> Option<usize>
         ensures place { result ≡ place_of_handle self.now.drawn handle }
         ensures inside { IfSome result (λ place. place < length self.now.drawn.handles) }
+        ensures depth { length self.now.drawn.handles ≡ depth_of self.now - 1 }
     {
         self.handles.place_of(handle)
     }
@@ -192,39 +190,36 @@ impl Session {
         self.notes.clear();
     }
 
-    /// Notes a statement that was sent. The only refusal is `Memory`.
-    pub fn note(&mut self, sent: Sent) -> Result<(), Refusal>
+    /// Notes a statement that was sent.
+    pub fn note(&mut self, sent: Sent) -> Result<(), AllocError>
         ensures ok { OnOk result (self.new ≡ with_note sent self.old) }
         ensures err { OnErr result (self.new ≡ self.old) }
-        ensures cause { IfErr result (λ e. e ≡ Memory) }
     {
         self.notes.push(Note::Sent(sent))
     }
 
-    /// Notes warnings, in order. The only refusal is `Memory`, and some may have been noted then.
-    pub fn warn_all(&mut self, warnings: &[Warning]) -> Result<(), Refusal>
+    /// Notes warnings, in order. Where memory runs out, some may have been noted then.
+    pub fn warn_all(&mut self, warnings: &[Warning]) -> Result<(), AllocError>
         ensures ok { OnOk result (self.new ≡ with_warnings warnings.now self.old) }
         ensures alike { AreAlikeButNotes self.old self.new }
-        ensures cause { IfErr result (λ e. e ≡ Memory) }
     {
         note_warnings(&mut self.notes, warnings)
     }
 
-    /// The transaction's scope starts, with the objects as they stand now. The only refusal is `Memory`, and it changes nothing.
-    pub fn begin(&mut self) -> Result<(), Refusal>
+    /// The transaction's scope starts, with the objects as they stand now. Where memory runs out it changes nothing.
+    pub fn begin(&mut self) -> Result<(), AllocError>
         requires outside { self.old.frames.scopes ≡ [] }
         requires well { self.old.failed ≡ false }
         ensures ok { OnOk result (self.new ≡ scoping.session_begun self.old) }
         ensures err { OnErr result (self.new ≡ self.old) }
-        ensures cause { IfErr result (λ e. e ≡ Memory) }
         ensures same { SameObjects self.old self.new }
     {
-        self.frames.push(&self.arena)
+        self.frames.start(&self.arena)
     }
 
-    /// A savepoint's scope starts, with the objects as they stand now, under the next handle, which is answered. The only
-    /// refusal is `Memory`; it changes nothing, but the handle may be lost.
-    pub fn nest(&mut self) -> Result<u32, Refusal>
+    /// A savepoint's scope starts, with the objects as they stand now, under the next handle, which is answered. Where memory
+    /// runs out it changes nothing, but the handle may be lost.
+    pub fn nest(&mut self) -> Result<u32, AllocError>
         requires inside { 0 < length self.old.frames.scopes }
         requires room { length self.old.frames.scopes < scope_limit }
         requires well { self.old.failed ≡ false }
@@ -233,13 +228,12 @@ impl Session {
         ensures err { OnErr result (self.new ≡ record self.old {
           drawn = record self.old.drawn { drawn = self.new.drawn.drawn };
         }) }
-        ensures cause { IfErr result (λ e. e ≡ Memory) }
         ensures same { SameObjects self.old self.new }
     {
         let handle = self.handles.draw()?;
-        if let Err(refusal) = self.frames.push(&self.arena) {
+        if let Err(full) = self.frames.start(&self.arena) {
             self.handles.end(1);
-            return Err(refusal);
+            return Err(full);
         }
         Ok(handle)
     }
@@ -299,42 +293,34 @@ impl Session {
         self.failed = false;
     }
 
-    /// The transaction was committed: no scope is in progress, and every persistent object is expired. The only refusal is
-    /// `Memory`; no scope is in progress then either, and all but the objects is as it was.
-    pub fn end_transaction(&mut self) -> Result<(), Refusal>
+    /// The transaction was committed: no scope is in progress, and every persistent object is expired.
+    pub fn end_transaction(&mut self)
         requires inside { length self.old.frames.scopes ≡ 1 }
         requires well { self.old.failed ≡ false }
-        ensures ok { OnOk result (self.new ≡ scoping.session_committed self.old) }
-        ensures ended { self.new ≡ record self.old { graph = self.new.graph; frames = no_frames } }
-        ensures cause { IfErr result (λ e. e ≡ Memory) }
+        ensures ended { self.new ≡ scoping.session_committed self.old }
         ensures same { SameObjects self.old self.new }
     {
         self.frames.clear();
-        commit_all(&mut self.arena)
+        commit_all(&mut self.arena);
     }
 
-    /// No transaction is in progress, and every object leaves the session. The only refusal is `Memory`; no transaction and no
-    /// savepoint is in progress then either, and no rollback is awaited.
-    pub fn let_go(&mut self) -> Result<(), Refusal>
-        ensures ok { OnOk result (self.new ≡ scoping.session_closed self.old) }
-        ensures ended { self.new
-            ≡ record (scoping.session_closed self.old) { graph = self.new.graph } }
-        ensures cause { IfErr result (λ e. e ≡ Memory) }
+    /// No transaction is in progress, and every object leaves the session.
+    pub fn let_go(&mut self)
+        ensures closed { self.new ≡ scoping.session_closed self.old }
         ensures same { SameObjects self.old self.new }
     {
         self.frames.clear();
         self.handles.end(self.handles.len());
         self.failed = false;
-        let_go_all(&mut self.arena)
+        let_go_all(&mut self.arena);
     }
 
-    /// Makes a change of the objects, by which each is touched in the innermost scope where its record comes to differ. The only
-    /// refusal is `Memory`; the scopes in progress stay then, and all but the objects and what is kept of them.
-    pub fn step<S: ObjectStep>(&mut self, step: S) -> Result<(), Refusal>
+    /// Makes a change of the objects, by which each is touched in the innermost scope where its record comes to differ. Where
+    /// memory runs out the scopes in progress stay then, and all but the objects and what is kept of them.
+    pub fn step<S: ObjectStep>(&mut self, step: S) -> Result<(), AllocError>
         requires { S.is_ready step self.old.mapping self.old.graph }
         ensures ok { OnOk result (self.new
             ≡ with_graph (S.after step self.old.mapping self.old.graph) self.old) }
-        ensures cause { IfErr result (λ e. e ≡ Memory) }
         ensures rest { self.new
             ≡ record self.old { graph = self.new.graph; frames = self.new.frames } }
         ensures same { SameObjects self.old self.new }
@@ -436,7 +422,8 @@ impl Session {
             return Err(fault);
         }
         touch_for_mark(&mut self.frames, &self.arena, object)?;
-        self.arena.put_marks(object, added, true, orphan)
+        self.arena.put_marks(object, added, true, orphan);
+        Ok(())
     }
 
     /// The value of a cell.
@@ -464,9 +451,8 @@ impl Session {
 }
 
 /// Warnings are noted, in order.
-fn note_warnings(notes: &mut Notes, warnings: &[Warning]) -> Result<(), Refusal>
-    ensures ok { OnOk result (notes.new ≡ notes.old ++ map note.Warn warnings.now) }
-    ensures cause { IfErr result (λ e. e ≡ Memory) }
+fn note_warnings(notes: &mut Notes, warnings: &[Warning]) -> Result<(), AllocError>
+    ensures { OnOk result (notes.new ≡ notes.old ++ map note.Warn warnings.now) }
 {
     for warning in warnings {
         notes.push(Note::Warn(*warning))?;

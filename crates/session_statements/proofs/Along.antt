@@ -17,9 +17,10 @@ use Rattle.keeper_core.proofs.Sequence.{done, each_end, each_err, each_turn, rea
 use Rattle.session_scopes.specs.SessionState.{AreAlikeButNotes, IsInStep, SessionState}
 use Rattle.session_calls.specs.Calling.{IsSessionCall}
 use Rattle.session_calls.specs.Parts.{World}
-use Rattle.session_calls.proofs.Joining.{memory_early, same_alike, same_more, stays_early}
+use Rattle.session_calls.proofs.Joining.{goes_alike, memory_early, stays_early}
 use Rattle.plan_statements.specs.Known.{AreKeysAt}
 use Rattle.session_statements.specs.Run.{keys_by_place, send_one, send_plan}
+use Rattle.session_scopes.proofs.SessionLemmas.{goes_more}
 
 -- so many statements of the plan were sent: the keys that are known by then, what is left of the program, and what stays
 pub record IsAlong {K : Type 0} (moment : K → Moment Store) (schema : Catalog) (changes : RowChanges) (plan : List Planned) (old : SessionState × K) (count : ℕ) (known : List (List Value)) (new : SessionState × K) : Type 0 where
@@ -83,7 +84,7 @@ module _ {K : Type 0} (moment : K → Moment Store) (schema : Catalog) (changes 
       let called = call along.keys along.are in
       record {
         step = then_err {v = λ (ks : Keys). ks} (λ keys. give (keys_by_place changes keys)) (each_err (send_one schema changes) plan i along.reached within is called.step);
-        kept = record { same = same_more (same_alike own mid along.alike) called.kept.same; in_step = called.kept.in_step };
+        kept = record { same = goes_more (goes_alike own mid along.alike) called.kept.same; in_step = called.kept.in_step };
       }
 
   -- memory ran out after a statement was sent
@@ -96,7 +97,7 @@ module _ {K : Type 0} (moment : K → Moment Store) (schema : Catalog) (changes 
       record {
         step = then_err {v = λ (ks : Keys). ks} (λ keys. give (keys_by_place changes keys))
             (reaches_end {v = λ (ks : Keys). ks} (each_turn (send_one schema changes) plan i along.reached within is called.step refl) (no_room cause));
-        kept = record { same = same_more (same_alike own mid along.alike) called.kept.same; in_step = stays_early Y e (length now.frames.scopes) (moment new) (memory_early e cause) };
+        kept = record { same = goes_more (goes_alike own mid along.alike) called.kept.same; in_step = stays_early Y e (length now.frames.scopes) (moment new) (memory_early e cause) };
       }
 
   -- all statements were sent
@@ -108,7 +109,7 @@ module _ {K : Type 0} (moment : K → Moment Store) (schema : Catalog) (changes 
       record {
         step = then_ok (λ keys. give (keys_by_place changes keys)) (each_end {v = λ (x : Unit {0}). along.keys} (send_one schema changes) plan i along.reached ended refl)
             (done {v = λ (ks : List (List Value)). ks} (sym whole));
-        kept = record { same = same_alike own now along.alike; in_step = along.in_step };
+        kept = record { same = goes_alike own now along.alike; in_step = along.in_step };
       }
 
   -- nothing was refused so far

@@ -17,10 +17,10 @@ use Rattle.keeper_core.proofs.Sequence.{ran_out, then_err}
 use Rattle.keeper_core.specs.Calls as call
 use Rattle.keeper_core.specs.Calls.{run_of_write}
 use Rattle.keeper_core.specs.Keeping.{IsWrite}
-use Rattle.session_scopes.specs.SessionState.{IsInStep, SameObjects, SessionState, with_note, with_notes}
+use Rattle.session_scopes.specs.SessionState.{GoesOn, IsInStep, SessionState, with_note, with_notes}
 use Rattle.session_calls.specs.Calling.{IsSessionCall}
 use Rattle.session_calls.specs.Parts.{World}
-use Rattle.session_calls.proofs.Joining.{memory_early, same_itself, stays_early}
+use Rattle.session_calls.proofs.Joining.{goes_itself, memory_early, stays_early}
 use Rattle.session_calls.proofs.Noting.{stated_call}
 
 -- the statement alone is sent
@@ -44,7 +44,7 @@ pub no_room_call : {A X K : Type 0} (moment : K → Moment Store) {v : X → A} 
 no_room_call {X = X} moment {own = own} {now = now} {keeper = keeper} {e = e} cause is = record {
   step = lost moment cause;
   kept = record {
-    same = subst (λ (s : SessionState). SameObjects own s) (sym is) (same_itself own);
+    same = subst (λ (s : SessionState). GoesOn own s) (sym is) (goes_itself own);
     in_step = stays_early X e (length now.frames.scopes) (moment keeper) (memory_early e cause);
   };
 }

@@ -12,7 +12,7 @@ use Rattle.keeper_core.specs.Store.{Store}
 use Rattle.keeper_core.specs.Moment.{Moment}
 use Rattle.keeper_core.specs.Beside.{on_store}
 use Rattle.keeper_core.specs.Calls as call
-use Rattle.plan_statements.specs.Fitting.{fits_schema}
+use Rattle.schema_core.specs.WellFormedTest.{is_well_formed}
 use Rattle.session_scopes.specs.SessionState.{IsInStep, SessionState, with_notes}
 use Rattle.session_calls.specs.Calling.{IsSessionCall}
 use Rattle.session_calls.proofs.Joining.{err_call, refused_call, still_call, then_call}
@@ -24,7 +24,7 @@ use Rattle.session_statements.proofs.Noted.{ran_out_call}
 module _ {K : Type 0} (moment : K → Moment Store) (schema : Catalog) (changes : RowChanges) (planned : Planned) (keys : Keys) (known : List (List Value)) where
   -- the test, by a list of keys
   test_by_list : (b : Bool) → AreKeysAt keys known → is_sendable schema changes (keys_at known) planned ≡ b → is_sendable schema changes keys planned ≡ b
-  test_by_list b are is = ap (λ (s : RowStmt). is_of_rows schema changes planned && fits_schema schema s) (sent_at schema changes keys known planned are) ∙ is
+  test_by_list b are is = ap (λ (s : RowStmt). is_of_rows schema changes planned && is_well_formed schema s) (sent_at schema changes keys known planned are) ∙ is
 
   -- the statement passed the test, or did not
   by_test : {X : Type 0} (v : X → Keys) {own now : SessionState} {old new : K} {r : Result X Refusal} (b : Bool) → AreKeysAt keys known → is_sendable schema changes (keys_at known) planned ≡ b

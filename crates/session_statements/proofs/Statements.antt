@@ -21,15 +21,16 @@ use Rattle.keeper_core.specs.Moment.{Moment}
 use Rattle.keeper_core.specs.Beside.{changes, on_store}
 use Rattle.keeper_core.proofs.Lifting.{lost, spoiled}
 use Rattle.keeper_core.proofs.Sequence.{then_ok}
-use Rattle.session_scopes.specs.SessionState.{AreAlikeButNotes, IsInStep, SameObjects, SessionState, with_note, with_notes}
+use Rattle.session_scopes.specs.SessionState.{AreAlikeButNotes, GoesOn, IsInStep, SameObjects, SessionState, with_note, with_notes}
 use Rattle.session_calls.specs.Calling.{IsSessionCall}
 use Rattle.session_calls.specs.Parts.{World, checked}
 use Rattle.session_calls.specs.Steps.{enter}
-use Rattle.session_calls.proofs.Joining.{change_call, chosen_call, err_call, fails, memory_early, passes, same_itself, same_more, stays_early, still_call, then_call}
+use Rattle.session_calls.proofs.Joining.{change_call, chosen_call, err_call, fails, goes_itself, memory_early, passes, stays_early, still_call, then_call}
 use Rattle.session_calls.proofs.Noting.{IsAlwaysSent, alike_noted, stated_call}
 use Rattle.session_statements.specs.Refusals.{IsRefusedByKeeper}
 use Rattle.session_statements.specs.Rewriting.{session_reread}
 use Rattle.session_statements.specs.Steps.{bulk, enter_bulk, rows, send_bulk, update_fault}
+use Rattle.session_scopes.proofs.SessionLemmas.{goes_more, goes_on}
 
 -- ---- what is asked first
 
@@ -70,7 +71,7 @@ pub no_room_call : {A X K : Type 0} (moment : K → Moment Store) (m : World →
 no_room_call {X = X} moment m {own = own} {now = now} {keeper = keeper} is = record {
   step = spoiled moment;
   kept = record {
-    same = subst (λ (s : SessionState). SameObjects own s) (sym is) (same_itself own);
+    same = subst (λ (s : SessionState). GoesOn own s) (sym is) (goes_itself own);
     in_step = stays_early X Memory (length now.frames.scopes) (moment keeper) refl;
   };
 }
@@ -111,7 +112,7 @@ unfolding bulk
 bulk_lost {Y = Y} moment statement count {v = v} {now = now} {new = new} {e = e} p cause same = record {
   step = then_ok {v' = v} (λ (x : ℕ). changes (session_reread (table_of statement)) >>= λ u. give x) p.step (lost moment cause);
   kept = record {
-    same = same_more p.kept.same same;
+    same = goes_more p.kept.same (goes_on same);
     in_step = stays_early Y e (length now.frames.scopes) (moment new) (memory_early e cause);
   };
 }

@@ -1,8 +1,7 @@
 //! The objects of a table that a statement wrote are to be read again.
 
-ghost use Rattle.std.specs.Prelude.{◌≡◌, ◌==◌, cond, IfErr, OnOk, not, true};
+ghost use Rattle.std.specs.Prelude.{◌≡◌, ◌==◌, cond, OnOk, not};
 ghost use Rattle.std.specs.List.{list_all, list_any};
-ghost use Rattle.base_core.specs.declared.refusal.Refusal.TheVariants.{Memory};
 ghost use Rattle.class_mapping.specs.Mapped.{IsClass, tables_of};
 ghost use Rattle.object_arena.specs.Fit.{IsFit, Keeps};
 ghost use Rattle.object_arena.specs.Graph.{IsObject, is_persistent, object_at, with_object};
@@ -11,12 +10,13 @@ ghost use Rattle.object_records.specs.Same.{same_object};
 ghost use Rattle.object_records.specs.Touched.{frames_touched_between};
 ghost use Rattle.session_statements.specs.Rewriting as spec;
 
-use base_core::{ClassId, ObjId, Refusal, TableId};
+use base_core::{ClassId, ObjId, TableId};
 use class_mapping::Mapping;
 use object_arena::{Arena, Cell, Link, Object, State};
 use object_parts::expire_if;
 use savepoints::Frames;
 use session_scopes::ObjectStep;
+use std::alloc::AllocError;
 
 /// Expires each persistent object with rows in a table.
 #[derive(Drop)]
@@ -36,25 +36,23 @@ impl ObjectStep for Reread {
         mapping: &Mapping,
         arena: &mut Arena,
         frames: &mut Frames,
-    ) -> Result<(), Refusal> {
+    ) -> Result<(), AllocError> {
         reread_all(mapping, arena, frames, self.table)
     }
 }
 
 /// Each persistent object with rows in a table is expired, and touched in the innermost scope where its record comes to differ.
-/// The only refusal is `Memory`, which changes no object.
+/// Where memory runs out it changes no object.
 fn reread_all(
     mapping: &Mapping,
     arena: &mut Arena,
     frames: &mut Frames,
     table: TableId,
-) -> Result<(), Refusal>
-    requires configured { mapping.now.configured ≡ true }
+) -> Result<(), AllocError>
     requires fit { IsFit mapping.now arena.old }
     ensures ok { OnOk result (arena.new ≡ spec.graph_reread mapping.now table arena.old) }
     ensures touched { OnOk result (frames.new
         ≡ frames_touched_between arena.old arena.new frames.old) }
-    ensures cause { IfErr result (λ e. e ≡ Memory) }
     ensures keeps { Keeps arena.old arena.new }
     ensures scopes { frames.new.scopes ≡ frames.old.scopes }
 {
@@ -63,18 +61,16 @@ fn reread_all(
     Ok(())
 }
 
-/// Each object that comes to differ is touched. The only refusal is `Memory`.
+/// Each object that comes to differ is touched.
 fn touch_each(
     mapping: &Mapping,
     arena: &Arena,
     frames: &mut Frames,
     table: TableId,
-) -> Result<(), Refusal>
-    requires configured { mapping.now.configured ≡ true }
+) -> Result<(), AllocError>
     requires fit { IsFit mapping.now arena.now }
     ensures ok { OnOk result (frames.new ≡ frames_touched_between
         arena.now (spec.graph_reread mapping.now table arena.now) frames.old) }
-    ensures cause { IfErr result (λ e. e ≡ Memory) }
     ensures scopes { frames.new.scopes ≡ frames.old.scopes }
 {
     for number in 0..arena.count() {
@@ -83,7 +79,7 @@ fn touch_each(
     Ok(())
 }
 
-/// An object is touched where it comes to differ. The only refusal is `Memory`.
+/// An object is touched where it comes to differ.
 #[tactic(auto, using(object_records::proofs::Scopes::kept_scopes, object_arena::proofs::FitLemmas::fit_class))]
 fn touch_one(
     mapping: &Mapping,
@@ -91,15 +87,13 @@ fn touch_one(
     frames: &mut Frames,
     table: TableId,
     object: ObjId,
-) -> Result<(), Refusal>
-    requires configured { mapping.now.configured ≡ true }
+) -> Result<(), AllocError>
     requires fit { IsFit mapping.now arena.now }
     requires object { IsObject arena.now object }
     ensures ok { OnOk result (frames.new ≡ cond
         (not (same_object (object_at arena.now object)
         (spec.reread_of mapping.now table (object_at arena.now object))))
         (touch arena.now object frames.old) frames.old) }
-    ensures cause { IfErr result (λ e. e ≡ Memory) }
     ensures scopes { frames.new.scopes ≡ frames.old.scopes }
 {
     if comes_to_differ(mapping, arena.object(object), table) {
@@ -111,7 +105,6 @@ fn touch_one(
 /// Each persistent object with rows in the table is expired.
 #[tactic(auto, using(object_arena::proofs::TurnLemmas::turns))]
 fn expire_each(mapping: &Mapping, arena: &mut Arena, table: TableId)
-    requires configured { mapping.now.configured ≡ true }
     requires fit { IsFit mapping.now arena.old }
     ensures reread { arena.new ≡ spec.graph_reread mapping.now table arena.old }
     ensures keeps { Keeps arena.old arena.new }
@@ -124,7 +117,6 @@ fn expire_each(mapping: &Mapping, arena: &mut Arena, table: TableId)
 /// A persistent object with rows in the table is expired.
 #[tactic(auto, using(object_arena::proofs::FitLemmas::fit_class))]
 fn expire_one(mapping: &Mapping, arena: &mut Arena, table: TableId, object: ObjId)
-    requires configured { mapping.now.configured ≡ true }
     requires fit { IsFit mapping.now arena.old }
     requires object { IsObject arena.old object }
     ensures reread { arena.new ≡ with_object arena.old object
@@ -137,7 +129,6 @@ fn expire_one(mapping: &Mapping, arena: &mut Arena, table: TableId, object: ObjI
 
 /// Whether an object is persistent with rows in the table.
 fn is_reread(mapping: &Mapping, object: &Object, table: TableId) -> bool
-    requires configured { mapping.now.configured ≡ true }
     requires class { IsClass mapping.now object.now.class }
     ensures { result ≡ spec.is_reread mapping.now table object.now }
 {
@@ -146,7 +137,6 @@ fn is_reread(mapping: &Mapping, object: &Object, table: TableId) -> bool
 
 /// Whether a table is one of those of a class.
 fn has_rows_in(mapping: &Mapping, class: ClassId, table: TableId) -> bool
-    requires configured { mapping.now.configured ≡ true }
     requires class { IsClass mapping.now class }
     ensures { result ≡ list_any (λ own. own.0 == table.0) (tables_of mapping.now class) }
 {
@@ -162,7 +152,6 @@ fn is_persistent(state: State) -> bool
 
 /// Whether an object's record comes to differ.
 fn comes_to_differ(mapping: &Mapping, object: &Object, table: TableId) -> bool
-    requires configured { mapping.now.configured ≡ true }
     requires class { IsClass mapping.now object.now.class }
     ensures { result ≡ not (same_object object.now (spec.reread_of mapping.now table object.now)) }
 {

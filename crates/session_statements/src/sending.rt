@@ -17,6 +17,7 @@ use expr_types::{Bulk, CopiedIn, Select};
 use keeper_core::calls::table_of_bulk;
 use keeper_core::{Keeper, Sent, calls};
 use session_scopes::Session;
+use std::alloc::AllocError;
 
 /// The rows of a select over the tables now. A refusal leaves the session as it was, but for the statement noted.
 ///
@@ -103,21 +104,19 @@ fn send_bulk<K: Keeper>(
     }
 }
 
-/// Notes a select. The only refusal is `Memory`.
-fn note_query(session: &mut Session, select: &Select) -> Result<(), Refusal>
+/// Notes a select.
+fn note_query(session: &mut Session, select: &Select) -> Result<(), AllocError>
     ensures ok { OnOk result (session.new ≡ with_note (sent.Query select.now) session.old) }
     ensures err { OnErr result (session.new ≡ session.old) }
-    ensures cause { IfErr result (λ e. e ≡ Memory) }
 {
     let copy = select.copied_in(session.alloc())?;
     session.note(Sent::Query(copy))
 }
 
-/// Notes a bulk statement. The only refusal is `Memory`.
-fn note_bulk(session: &mut Session, statement: &Bulk) -> Result<(), Refusal>
+/// Notes a bulk statement.
+fn note_bulk(session: &mut Session, statement: &Bulk) -> Result<(), AllocError>
     ensures ok { OnOk result (session.new ≡ with_note (sent.Bulk statement.now) session.old) }
     ensures err { OnErr result (session.new ≡ session.old) }
-    ensures cause { IfErr result (λ e. e ≡ Memory) }
 {
     let copy = statement.copied_in(session.alloc())?;
     session.note(Sent::Bulk(copy))

@@ -14,12 +14,12 @@ use base_core::{Copied, KeyList, Refusal};
 use keeper_core::{Keeper, Sent, calls};
 use schema_core::RowStmt;
 use session_scopes::Session;
+use std::alloc::AllocError;
 
-/// Notes a statement on rows. The only refusal is `Memory`, and it changes nothing.
-fn note_write(session: &mut Session, statement: &RowStmt) -> Result<(), Refusal>
+/// Notes a statement on rows. Where memory runs out it changes nothing.
+fn note_write(session: &mut Session, statement: &RowStmt) -> Result<(), AllocError>
     ensures ok { OnOk result (session.new ≡ with_note (sent.Write statement.now) session.old) }
     ensures err { OnErr result (session.new ≡ session.old) }
-    ensures cause { IfErr result (λ e. e ≡ Memory) }
 {
     let copy = statement.copied()?;
     session.note(Sent::Write(copy))

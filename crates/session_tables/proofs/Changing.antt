@@ -12,7 +12,7 @@ use Rattle.keeper_core.specs.Store.{Store, with_empty_table, without_table}
 use Rattle.keeper_core.specs.Programs.{Event, Run, Sends, each, give, quiet}
 use Rattle.keeper_core.specs.Moment.{AsTold, Moment, Ran, Runs, Told, parts}
 use Rattle.keeper_core.specs.Beside.{Beside, by_own, moment_beside, told_beside}
-use Rattle.keeper_core.proofs.Lifting.{lost}
+use Rattle.keeper_core.proofs.Lifting.{spoiled}
 use Rattle.keeper_core.proofs.Sequence.{done, ran_out, then_err, then_ok}
 use Rattle.keeper_core.specs.Calls as call
 use Rattle.keeper_core.specs.Keeping.{IsCall, IsCoherent}
@@ -21,7 +21,7 @@ use Rattle.session_parts.specs.Depths.{HasDepth}
 use Rattle.session_scopes.specs.SessionState.{AreAlikeButNotes, IsInStep, SessionState, depth_of, with_note, with_notes}
 use Rattle.session_calls.specs.Calling.{IsSessionCall}
 use Rattle.session_calls.specs.Parts.{fault_if}
-use Rattle.session_calls.proofs.Joining.{chosen_call, err_call, fails, passes, same_alike, stays_early, stays_there, then_call}
+use Rattle.session_calls.proofs.Joining.{chosen_call, err_call, fails, goes_alike, goes_itself, passes, stays_early, stays_there, then_call}
 use Rattle.session_calls.proofs.Noting.{alike_noted, note_of, noted, stopped}
 use Rattle.session_tables.specs.declared.tables.TableChange.{TableChange}
 use Rattle.session_tables.specs.declared.tables.TableChange.TheVariants.{Create, Drop}
@@ -87,7 +87,7 @@ pub change_ended : {Y K : Type 0} (moment : K → Moment Store) (change : TableC
 unfolding change_one
 change_ended {Y = Y} moment change table {own = own} {new = new} {e = e} p = record {
   step = then_err (λ _. give tt) (stopped {own = own} {now = own} p.stops p.step);
-  kept = record { same = same_alike own own (alike_itself own); in_step = stays_early Y e (length own.frames.scopes) (moment new) p.stops };
+  kept = record { same = goes_itself own; in_step = stays_early Y e (length own.frames.scopes) (moment new) p.stops };
 }
 
 -- the table did not change
@@ -96,7 +96,7 @@ pub change_none : {K : Type 0} (moment : K → Moment Store) (change : TableChan
 unfolding change_one
 change_none moment change table {own = own} {old = old} {new = new} coherent in_step none p = record {
   step = then_ok (λ _. give tt) (noted moment (change_in_store change table) {own = own} {now = own} coherent (λ w deep answer. nothing_noted own (change_in_store change table w).events (silent change table w answer)) p.step) (done {v = λ (u : Unit {0}). u} refl);
-  kept = record { same = same_alike own own (alike_itself own); in_step = deep_none moment change table own old new (Ok false) in_step none p.depth p.step };
+  kept = record { same = goes_itself own; in_step = deep_none moment change table own old new (Ok false) in_step none p.depth p.step };
 }
 
 -- the table change_in_store, and the session has it noted
@@ -128,9 +128,12 @@ change_step moment change table own now old new (Err e) coherent p is cause =
     (lost_own moment (ran_out (noted_change moment change table {own = own} coherent p)))
 
 -- what the session is then
-pub alike_then : (own now : SessionState) (statement : Sent) (r : Result (Unit {0}) Refusal) → OnOk r (now ≡ with_note statement own) → OnErr r (now ≡ own) → AreAlikeButNotes own now
+pub alike_still : (own now : SessionState) → now ≡ own → AreAlikeButNotes own now
+alike_still own now is = is ∙ ap (λ (s : SessionState). record own { notes = s.notes }) (sym is)
+
+alike_then : (own now : SessionState) (statement : Sent) (r : Result (Unit {0}) Refusal) → OnOk r (now ≡ with_note statement own) → OnErr r (now ≡ own) → AreAlikeButNotes own now
 alike_then own now statement (Ok u) is none = alike_noted own now statement is
-alike_then own now statement (Err e) none is = is ∙ ap (λ (s : SessionState). record own { notes = s.notes }) (sym is)
+alike_then own now statement (Err e) none is = alike_still own now is
 
 -- the table change_in_store, and the session noted it, or there was no memory for the note
 pub change_sent : {K : Type 0} (moment : K → Moment Store) (change : TableChange) (table : TableId) {own now : SessionState} {old new : K} {r : Result (Unit {0}) Refusal} → IsCoherent (moment old) → IsInStep own (moment old) → own.frames.scopes ≡ []
@@ -142,7 +145,7 @@ change_sent moment change table {own = own} {now = now} {old = old} {new = new} 
     record {
       step = change_step moment change table own now old new r coherent p is cause;
       kept = record {
-        same = same_alike own now alike;
+        same = goes_alike own now alike;
         in_step = stays_there r (length now.frames.scopes) (moment new) (deep.0, deep.1 ∙ sym (ap (λ (s : SessionState). length s.frames.scopes) alike));
       };
     }
@@ -178,5 +181,5 @@ all_change moment change depth {own = own} {now = now} {old = old} {new = new} {
     (subst (λ (tables : List TableId). IsSessionCall moment (λ u. u) (each (change_one change) tt tables) (own, old) r (now, new)) order_is p))
 
 -- there was no memory for the order
-pub no_order : {X K : Type 0} (moment : K → Moment Store) (change : TableChange) {v : X → Unit {0}} {own : SessionState} {keeper : K} {e : Refusal} → e ≡ Memory → IsInStep own (moment keeper) → IsSessionCall moment v (change_all change) (own, keeper) (Err e) (own, keeper)
-no_order moment change {own = own} is in_step = record { step = lost moment is; kept = record { same = same_alike own own (alike_itself own); in_step = λ early. in_step } }
+pub no_order : {X K : Type 0} (moment : K → Moment Store) (change : TableChange) {v : X → Unit {0}} {own : SessionState} {keeper : K} → IsInStep own (moment keeper) → IsSessionCall moment v (change_all change) (own, keeper) (Err Memory) (own, keeper)
+no_order moment change {own = own} in_step = record { step = spoiled moment; kept = record { same = goes_itself own; in_step = λ early. in_step } }

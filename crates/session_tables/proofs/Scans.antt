@@ -18,9 +18,9 @@ use Rattle.keeper_core.proofs.Sequence.{each_end, each_err, each_turn, reaches_s
 use Rattle.keeper_core.specs.Calls as call
 use Rattle.keeper_core.specs.Keeping.{IsScan}
 use Rattle.session_parts.specs.Depths.{HasDepth, StaysAt}
-use Rattle.session_scopes.specs.SessionState.{SessionState}
+use Rattle.session_scopes.specs.SessionState.{IsInStep, SessionState}
 use Rattle.session_calls.specs.Calling.{IsSessionCall}
-use Rattle.session_calls.proofs.Joining.{chosen_call, same_itself}
+use Rattle.session_calls.proofs.Joining.{chosen_call, goes_itself}
 use Rattle.session_tables.specs.Dump.{Filled, scan_each, scan_tables, with_filled}
 
 -- ---- the tables by number
@@ -51,7 +51,11 @@ table_end step schema i p h same = each_end step (table_ids schema) i p (ended s
 pub none_filled : (schema : Catalog) (tables : Filled) → tables ≡ [] → All (λ table. IsTable schema table.0) tables
 none_filled schema tables is = rw is (All-nil (λ table. IsTable schema table.0))
 
-pub ruleset tables = (table_turn, table_err, table_end, reaches_start, none_filled)
+-- the keeper has as many scopes open as before
+pub deep_more : {W : Type 0} (depth : ℕ) (mid new : Moment W) → HasDepth depth mid → HasDepth mid.depth new → HasDepth depth new
+deep_more depth mid new was is = (is.0, is.1 ∙ was.1)
+
+pub ruleset tables = (table_turn, table_err, table_end, reaches_start, none_filled, deep_more)
 
 -- ---- one table
 
@@ -67,9 +71,9 @@ filled_declared schema table before rows (Ok more) is declared all = subst (All 
 filled_declared schema table before rows (Err e) is declared all = tt
 
 -- the keeper has its scopes open still
-pub scanned_deep : {K X : Type 0} (moment : K → Moment Store) (table : TableId) (depth : ℕ) (old new : K) (rows : Option (List (List Value))) (r : Result X Refusal) → HasDepth depth (moment old) → IsScan moment table old (Ok rows) new → OnOk r (HasDepth depth (moment new))
-scanned_deep moment table depth old new rows (Ok x) deep p = ((parts p.step).keeps.attached ∙ deep.0, p.depth ∙ deep.1)
-scanned_deep moment table depth old new rows (Err e) deep p = tt
+pub scanned_deep : {K X : Type 0} (moment : K → Moment Store) (table : TableId) (old new : K) (rows : Option (List (List Value))) (r : Result X Refusal) → (moment old).attached ≡ true → IsScan moment table old (Ok rows) new → OnOk r (HasDepth (moment old).depth (moment new))
+scanned_deep moment table old new rows (Ok x) attached p = ((parts p.step).keeps.attached ∙ attached, p.depth)
+scanned_deep moment table old new rows (Err e) attached p = tt
 
 pub memory_stops : {X : Type 0} (r : Result X Refusal) → IfErr r (λ e. e ≡ Memory) → IfErr r (λ e. ends_early e ≡ true)
 memory_stops (Ok x) cause = tt
@@ -84,12 +88,12 @@ stays (Ok x) depth moment deep early = deep
 stays (Err e) depth moment deep early = λ own. absurd (let h : false ≡ true = sym own ∙ early in cc)
 
 -- they are those of its mapping, as the keeper has them
-pub scans_all : {K : Type 0} (moment : K → Moment Store) (depth : ℕ) (schema : Catalog) (own : SessionState) {old new : K} {r : Result Filled Refusal} → depth ≡ length own.frames.scopes → schema ≡ own.mapping.schema → Runs moment (λ tables. tables) (scan_each schema) old r new
-    → OnOk r (HasDepth depth (moment new)) → IfErr r (λ e. ends_early e ≡ true) → IsSessionCall moment (λ tables. tables) scan_tables (own, old) r (own, new)
+pub scans_all : {K : Type 0} (moment : K → Moment Store) (schema : Catalog) (own : SessionState) {old new : K} {r : Result Filled Refusal} → schema ≡ own.mapping.schema → IsInStep own (moment old) → Runs moment (λ tables. tables) (scan_each schema) old r new
+    → OnOk r (HasDepth (moment old).depth (moment new)) → IfErr r (λ e. ends_early e ≡ true) → IsSessionCall moment (λ tables. tables) scan_tables (own, old) r (own, new)
 unfolding scan_tables
-scans_all moment depth schema own {old = old} {new = new} {r = r} is tables p deep early =
+scans_all moment schema own {old = old} {new = new} {r = r} tables in_step p deep early =
     chosen_call moment (λ session. on_store no_note (scan_each session.mapping.schema))
     (record {
       step = on_keeper (subst (λ (s : Catalog). Runs moment (λ (filled : Filled). filled) (scan_each s) old r new) tables p);
-      kept = record { same = same_itself own; in_step = subst (λ (d : ℕ). StaysAt r d (moment new)) is (stays r depth (moment new) deep early) };
+      kept = record { same = goes_itself own; in_step = subst (λ (d : ℕ). StaysAt r d (moment new)) in_step.1 (stays r (moment old).depth (moment new) deep early) };
     })

@@ -14,7 +14,7 @@ use base_core::{ListOf, Refusal, RowList, TableId};
 use keeper_core::{Keeper, calls};
 use schema_core::Schema;
 use session_scopes::Session;
-use std::alloc::Global;
+use std::alloc::{AllocError, Global};
 
 /// Tables, each with its rows in the order of its key.
 pub type Filled = ListOf<(TableId, RowList)>;
@@ -31,28 +31,23 @@ pub fn scan_tables<K: Keeper>(session: &Session, keeper: &mut K) -> Result<Fille
         (All (λ table. IsTable session.now.mapping.schema table.0)) }
     ensures stops { IfErr result (λ e. ends_early e ≡ true) }
 {
-    let depth = session.open_scopes();
-    scan_each(session.alloc(), keeper, session.mapping().schema(), depth)
+    scan_each(session.alloc(), keeper, session.mapping().schema())
 }
 
-/// The created ones of a schema's tables, in the order of declaration. The keeper has so many scopes open.
+/// The created ones of a schema's tables, in the order of declaration.
 #[tactic(auto, using(crate::proofs::Scans::tables), unfolding(crate::specs::Dump::scan_each))]
-fn scan_each<K: Keeper>(
-    alloc: Global,
-    keeper: &mut K,
-    schema: &Schema,
-    depth: u32,
-) -> Result<Filled, Refusal>
-    requires deep { HasDepth depth (K.moment keeper.old) }
+fn scan_each<K: Keeper>(alloc: Global, keeper: &mut K, schema: &Schema) -> Result<Filled, Refusal>
+    requires attached { (K.moment keeper.old).attached ≡ true }
     ensures step { Runs K.moment
         (λ tables. tables) (dump.scan_each schema.now) keeper.old result keeper.new }
-    ensures deep { OnOk result (HasDepth depth (K.moment keeper.new)) }
+    ensures deep { OnOk result
+        (HasDepth (K.moment keeper.old).depth (K.moment keeper.new)) }
     ensures stops { IfErr result (λ e. ends_early e ≡ true) }
     ensures declared { IfOk result (All (λ table. IsTable schema.now table.0)) }
 {
     let mut tables = ListOf::new(alloc);
     for number in 0..schema.count() {
-        tables = scan_one(alloc, keeper, schema, TableId(number), tables, depth)?;
+        tables = scan_one(alloc, keeper, schema, TableId(number), tables)?;
     }
     Ok(tables)
 }
@@ -65,25 +60,24 @@ fn scan_one<K: Keeper>(
     schema: &Schema,
     table: TableId,
     tables: Filled,
-    depth: u32,
 ) -> Result<Filled, Refusal>
-    requires deep { HasDepth depth (K.moment keeper.old) }
+    requires attached { (K.moment keeper.old).attached ≡ true }
     requires declared { IsTable schema.now table }
     requires before { All (λ other. IsTable schema.now other.0) tables }
     ensures step { Runs K.moment
         (λ tables. tables) (dump.scan_one table tables) keeper.old result keeper.new }
-    ensures deep { OnOk result (HasDepth depth (K.moment keeper.new)) }
+    ensures deep { OnOk result
+        (HasDepth (K.moment keeper.old).depth (K.moment keeper.new)) }
     ensures stops { IfErr result (λ e. ends_early e ≡ true) }
     ensures declared { IfOk result (All (λ table. IsTable schema.now table.0)) }
 {
     let rows = calls::scan(alloc, keeper, schema, table)?;
-    with_filled(tables, table, rows)
+    Ok(with_filled(tables, table, rows)?)
 }
 
-/// The tables with one more, where there are rows of it. The only refusal is `Memory`.
-fn with_filled(tables: Filled, table: TableId, rows: Option<RowList>) -> Result<Filled, Refusal>
-    ensures ok { IfOk result (λ more. more ≡ dump.with_filled tables table rows) }
-    ensures cause { IfErr result (λ e. e ≡ Refusal.Memory) }
+/// The tables with one more, where there are rows of it.
+fn with_filled(tables: Filled, table: TableId, rows: Option<RowList>) -> Result<Filled, AllocError>
+    ensures { IfOk result (λ more. more ≡ dump.with_filled tables table rows) }
 {
     let mut tables = tables;
     if let Some(rows) = rows {

@@ -15,7 +15,7 @@ use base_core::{Refusal, RequestKind, TableId};
 use keeper_core::{Keeper, Sent, calls};
 use schema_core::Schema;
 use session_scopes::Session;
-use std::alloc::Global;
+use std::alloc::{AllocError, Global};
 
 /// What is done to a table.
 #[derive(Clone, Copy)]
@@ -76,16 +76,14 @@ fn change_all<K: Keeper>(
     change_each(session, keeper, change, order.as_slice())
 }
 
-/// The tables in the order in which they are to change. The only refusal is `Memory`.
+/// The tables in the order in which they are to change.
 #[tactic(auto, using(crate::proofs::Orders::orders))]
-fn order_for(session: &Session, change: TableChange) -> Result<Vec<TableId>, Refusal>
+fn order_for(session: &Session, change: TableChange) -> Result<Vec<TableId>, AllocError>
     ensures order { IfOk result
         (λ order. order.items ≡ steps.order_for change session.now.mapping.schema) }
     ensures declared { IfOk result
         (λ order. All (IsTable session.now.mapping.schema) order.items) }
-    ensures cause { IfErr result (λ e. e ≡ Refusal.Memory) }
 {
-    let _resolved = session.mapping().is_configured();
     let mut order = session.mapping().schema().tables_in_order(session.alloc())?;
     match change {
         TableChange::Create => Ok(order),
@@ -134,7 +132,7 @@ fn change_one<K: Keeper>(
 {
     let has_changed = store_changes(session, keeper, change, table)?;
     if has_changed {
-        return session.note(statement_of(change, table));
+        return Ok(session.note(statement_of(change, table))?);
     }
     Ok(())
 }

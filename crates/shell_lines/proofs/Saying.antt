@@ -7,13 +7,13 @@ use Rattle.keeper_core.specs.Programs.{Run, quiet}
 use Rattle.keeper_core.specs.Alone.{IsOwn, IsQuiet}
 use Rattle.script_types.specs.declared.command.Command.{Command}
 use Rattle.script_types.specs.declared.command.Command.TheVariants.{TableHead, ClassHead}
-use Rattle.script_read.specs.Line.{line as said_by}
+use Rattle.script_read.specs.Line.{IsOfReading, line as said_by}
 use Rattle.shell_parts.specs.declared.block.Block.{Block}
 use Rattle.shell_parts.specs.Blocks.{block_of}
 use Rattle.shell_lines.specs.declared.desk.Said.{Said}
 use Rattle.shell_lines.specs.declared.desk.Said.TheVariants.{Nothing, Configure, Declare}
 use Rattle.shell_lines.specs.Lines.{is_end}
-use Rattle.shell_lines.specs.Desk.{DeskState, IsOfReading, done_of, ends_block, is_configure, is_head, is_skip, is_skipped, next_line, opened, place_of, said_at, said_inside, said_line, said_now, said_outside, said_read, skip_block, unless_end, with_block, with_line_taken, with_skipping}
+use Rattle.shell_lines.specs.Desk.{DeskState, done_of, ends_block, is_configure, is_head, is_skip, is_skipped, next_line, opened, place_of, said_at, said_inside, said_line, said_now, said_outside, said_read, skip_block, unless_end, with_block, with_line_taken, with_skipping}
 
 -- the line came to this
 abbrev pub Says : Run DeskState Said → Result Said Refusal → DeskState → Type 0

@@ -1,7 +1,7 @@
 -- What a line of a script comes to before the session is asked: which line it is, the block that is open, and what is to be done.
 use Rattle.std.specs.Prelude.{ℕ, ◌+◌, ◌-◌, ◌^◌, min, Bool, true, false, List, Option, None, Some, Result, Ok, Err, if◌then◌else◌}
 use Rattle.base_core.specs.declared.refusal.Refusal.{Refusal}
-use Rattle.base_core.specs.declared.refusal.Refusal.TheVariants.{Memory, NotBuilt, ScriptError}
+use Rattle.base_core.specs.declared.refusal.Refusal.TheVariants.{NotBuilt}
 use Rattle.script_types.specs.declared.command.Command.{Command}
 use Rattle.script_types.specs.declared.command.Command.TheVariants as line
 use Rattle.script_types.specs.declared.command.Inside.{Inside}
@@ -130,12 +130,6 @@ said_now bytes desk =
 -- what the next line comes to
 unfoldable pub said_line : List ℕ → DeskState → Run DeskState Said
 said_line bytes desk = said_now bytes (next_line desk)
-
--- a fault of the script, or `Memory`
-abbrev pub IsOfReading : Refusal → Type 0
-IsOfReading Memory = Unit {0}
-IsOfReading (ScriptError line column) = Unit {0}
-IsOfReading e = ⊥
 
 -- ---- what is to be done
 

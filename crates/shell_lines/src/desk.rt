@@ -1,20 +1,19 @@
 //! The lines of a script one after another, with the block that is open.
 
 ghost use Rattle.std.specs.Prelude.{◌≡◌, IfErr, IfOk, None};
-ghost use Rattle.base_core.specs.Answers.{Gives};
 ghost use Rattle.keeper_core.specs.Alone.{IsOwn, IsQuiet};
 ghost use Rattle.sayable_lines.specs.Sayable.{IsSayable};
 ghost use Rattle.script_read.specs.Line.{line as said_by};
 ghost use Rattle.shell_parts.specs.Blocks.{block_of};
 ghost use Rattle.shell_lines.specs.Desk as desk;
-ghost use Rattle.shell_lines.specs.Desk.{CanBeDone, IsOfReading};
+ghost use Rattle.shell_lines.specs.Desk.{CanBeDone};
 
 use crate::lines::{is_built, is_compiled, is_end};
 use base_core::Refusal;
 use sayable_lines::read_line;
 use script_types::{Command, Inside};
 use shell_parts::Block;
-use std::alloc::Global;
+use std::alloc::{AllocError, Global};
 use std::marker::Model;
 use std::mem::{drop, replace};
 
@@ -142,7 +141,7 @@ impl Desk {
             result self.new }
         ensures done { IfOk result CanBeDone }
     {
-        match read(alloc, line, self.line, place_of(&self.block)) {
+        match read_line(alloc, line, self.line, place_of(&self.block)) {
             Ok(command) => self.say_at(alloc, command),
             Err(refusal) => {
                 self.skip_block();
@@ -236,22 +235,6 @@ impl Desk {
     }
 }
 
-/// What a line says in its place.
-///
-/// # Errors
-/// `ScriptError` with the line's number and the column at which no line of the forms goes on, and `Memory`.
-fn read(alloc: Global, line: &[u8], number: u32, inside: Inside) -> Result<Command, Refusal>
-    ensures command { Gives (λ command. command) result (said_by line.now number inside) }
-    ensures cause { IfErr result IsOfReading }
-    ensures sayable { IfOk result IsSayable }
-{
-    match read_line(alloc, line, number, inside) {
-        Ok(command) => Ok(command),
-        Err(Refusal::ScriptError(line, column)) => Err(Refusal::ScriptError(line, column)),
-        Err(_) => Err(Refusal::Memory),
-    }
-}
-
 /// What every other line outside blocks comes to.
 fn done_if_built(command: Command) -> Result<Said, Refusal>
     requires sayable { IsSayable command }
@@ -269,19 +252,13 @@ fn done_if_built(command: Command) -> Result<Said, Refusal>
     Err(Refusal::NotBuilt)
 }
 
-/// The block with one more line. The only refusal is `Memory`.
-fn with_line(command: Command, block: Block) -> Result<Block, Refusal>
-    ensures ok { IfOk result (λ taken. taken ≡ desk.with_line_taken command block) }
-    ensures cause { IfErr result (λ e. e ≡ Refusal.Memory) }
+/// The block with one more line.
+fn with_line(command: Command, block: Block) -> Result<Block, AllocError>
+    ensures { IfOk result (λ taken. taken ≡ desk.with_line_taken command block) }
 {
     let mut block = block;
-    match block.take(command) {
-        Ok(()) => Ok(block),
-        Err(refusal) => {
-            drop(block);
-            Err(refusal)
-        }
-    }
+    block.take(command)?;
+    Ok(block)
 }
 
 /// A blank line or a comment.

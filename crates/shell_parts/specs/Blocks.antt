@@ -1,4 +1,4 @@
--- Blocks of lines: what their lines declare, and what becomes of a mapping at their end.
+-- Blocks of lines: what their lines declare, and what becomes of the declarations at their end.
 use Rattle.std.specs.Prelude.{ℕ, false, [], ◌∷◌, ◌++◌, Result, Ok, Err}
 use Rattle.base_core.specs.declared.refusal.Refusal.{Refusal}
 use Rattle.base_core.specs.declared.refusal.Refusal.TheVariants.{Memory, ArgumentError, NotBuilt}
@@ -58,7 +58,7 @@ abbrev pub without_number : {A : Type 0} → Result (A × Mapped) Refusal → Re
 without_number (Ok p) = Ok (tt, p.1)
 without_number (Err e) = Err e
 
--- the mapping's answer to what the block declares, where these validators are known
+-- the answer to what the block declares, where these validators are known
 abbrev pub declare : Rules → Declared → Mapped → Result (Unit {0} × Mapped) Refusal
 declare rules (Table spec) mapped = without_number (declare_table mapped spec)
 declare rules (Class spec) mapped = without_number (declare_class rules mapped spec)

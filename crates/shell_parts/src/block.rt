@@ -7,11 +7,11 @@ ghost use Rattle.class_mapping.specs.Declaring.{declare_class as classes_then, d
 ghost use Rattle.shell_parts.specs.Blocks.{IsOfDeclaring, block_of, declare, declared_of, forms_of, with_class_line, with_line, with_table_line, without_number};
 
 use base_core::{ListOf, Refusal};
-use class_mapping::Mapping;
+use class_mapping::Declarations;
 use class_types::{ClassSpec, Hooks};
 use schema_core::TableSpec;
 use script_types::{Command, Inside};
-use std::alloc::Global;
+use std::alloc::{AllocError, Global};
 
 /// What a block has declared so far.
 #[derive(Drop)]
@@ -21,13 +21,22 @@ pub enum Declared {
 }
 
 /// A block that is not ended yet.
-#[derive(Drop)]
 pub struct Block {
     declared: Declared,
     /// The number of its first line.
     first: u32,
     /// A line was refused: the lines to its end are skipped.
     skipping: bool,
+}
+
+impl Drop for Block {
+    fn drop(self) {
+        let Block {
+            declared: _,
+            first: _,
+            skipping: _,
+        } = self;
+    }
 }
 
 impl Declared {
@@ -79,11 +88,10 @@ impl Declared {
         }
     }
 
-    /// Takes a line of its block. The only refusal is `Memory`, and it leaves what is declared as it was.
-    pub fn take(&mut self, line: Command) -> Result<(), Refusal>
+    /// Takes a line of its block. Where memory runs out it leaves what is declared as it was.
+    pub fn take(&mut self, line: Command) -> Result<(), AllocError>
         ensures ok { OnOk result (self.new ≡ with_line self.old line) }
         ensures err { OnErr result (self.new ≡ self.old) }
-        ensures cause { IfErr result (λ e. e ≡ Refusal.Memory) }
     {
         match self {
             Declared::Table(spec) => take_table_line(spec, line),
@@ -136,38 +144,41 @@ impl Block {
         self.skipping = true;
     }
 
-    /// Takes a line of the block. The only refusal is `Memory`, and it leaves the block as it was.
-    pub fn take(&mut self, line: Command) -> Result<(), Refusal>
+    /// Takes a line of the block. Where memory runs out it leaves the block as it was.
+    pub fn take(&mut self, line: Command) -> Result<(), AllocError>
         ensures ok { OnOk result
             (self.new ≡ record self.old { declared = with_line self.old.declared line }) }
         ensures err { OnErr result (self.new ≡ self.old) }
-        ensures cause { IfErr result (λ e. e ≡ Refusal.Memory) }
     {
         self.declared.take(line)
     }
 
-    /// Declares what the block says in a mapping, where these validators are known.
+    /// Declares what the block says beside other declarations, where these validators are known.
     ///
     /// # Errors
     /// The declaration's own refusals. A refused block declares nothing.
-    pub fn declare(self, hooks: &Hooks, mapping: &mut Mapping) -> Result<(), Refusal>
+    pub fn declare(self, hooks: &Hooks, declarations: &mut Declarations) -> Result<(), Refusal>
         ensures step { Takes (λ _. tt)
-            (declare (rules_of hooks.now) self.declared mapping.old) mapping.old result
-            mapping.new }
+            (declare (rules_of hooks.now) self.declared declarations.old) declarations.old result
+            declarations.new }
         ensures cause { IfErr result IsOfDeclaring }
     {
-        match self.declared {
-            Declared::Table(spec) => declare_table(spec, mapping),
-            Declared::Class(spec) => declare_class(spec, hooks, mapping),
+        let Block {
+            declared,
+            first: _,
+            skipping: _,
+        } = self;
+        match declared {
+            Declared::Table(spec) => declare_table(spec, declarations),
+            Declared::Class(spec) => declare_class(spec, hooks, declarations),
         }
     }
 }
 
-/// Takes a line of a table's block. The only refusal is `Memory`, and it leaves the table as it was.
-fn take_table_line(spec: &mut TableSpec, line: Command) -> Result<(), Refusal>
+/// Takes a line of a table's block. Where memory runs out it leaves the table as it was.
+fn take_table_line(spec: &mut TableSpec, line: Command) -> Result<(), AllocError>
     ensures ok { OnOk result (spec.new ≡ with_table_line spec.old line) }
     ensures err { OnErr result (spec.new ≡ spec.old) }
-    ensures cause { IfErr result (λ e. e ≡ Refusal.Memory) }
 {
     match line {
         Command::ColumnLine(column) => spec.columns.push(column),
@@ -180,11 +191,10 @@ fn take_table_line(spec: &mut TableSpec, line: Command) -> Result<(), Refusal>
     }
 }
 
-/// Takes a line of a class's block. The only refusal is `Memory`, and it leaves the class as it was.
-fn take_class_line(spec: &mut ClassSpec, line: Command) -> Result<(), Refusal>
+/// Takes a line of a class's block. Where memory runs out it leaves the class as it was.
+fn take_class_line(spec: &mut ClassSpec, line: Command) -> Result<(), AllocError>
     ensures ok { OnOk result (spec.new ≡ with_class_line spec.old line) }
     ensures err { OnErr result (spec.new ≡ spec.old) }
-    ensures cause { IfErr result (λ e. e ≡ Refusal.Memory) }
 {
     match line {
         Command::RelationLine(relation) => spec.relations.push(relation),
@@ -203,32 +213,37 @@ fn has_room(count: u32) -> bool
     count < u32::MAX
 }
 
-/// Declares a table in a mapping.
-fn declare_table(spec: TableSpec, mapping: &mut Mapping) -> Result<(), Refusal>
+/// Declares a table beside other declarations.
+fn declare_table(spec: TableSpec, declarations: &mut Declarations) -> Result<(), Refusal>
     ensures step { Takes (λ _. tt)
-        (without_number (tables_then mapping.old spec)) mapping.old result mapping.new }
+        (without_number (tables_then declarations.old spec)) declarations.old result
+        declarations.new }
     ensures cause { IfErr result IsOfDeclaring }
 {
-    if !has_room(mapping.schema().count()) {
+    if !has_room(declarations.schema().count()) {
         return Err(Refusal::Memory);
     }
-    match mapping.declare_table(spec) {
+    match declarations.declare_table(spec) {
         Ok(_) => Ok(()),
         Err(refusal) => Err(refusal),
     }
 }
 
-/// Declares a class in a mapping.
-fn declare_class(spec: ClassSpec, hooks: &Hooks, mapping: &mut Mapping) -> Result<(), Refusal>
+/// Declares a class beside other declarations.
+fn declare_class(
+    spec: ClassSpec,
+    hooks: &Hooks,
+    declarations: &mut Declarations,
+) -> Result<(), Refusal>
     ensures step { Takes (λ _. tt)
-        (without_number (classes_then (rules_of hooks.now) mapping.old spec)) mapping.old result
-        mapping.new }
+        (without_number (classes_then (rules_of hooks.now) declarations.old spec))
+        declarations.old result declarations.new }
     ensures cause { IfErr result IsOfDeclaring }
 {
-    if !has_room(mapping.count()) {
+    if !has_room(declarations.count()) {
         return Err(Refusal::Memory);
     }
-    match mapping.declare_class(spec, hooks) {
+    match declarations.declare_class(spec, hooks) {
         Ok(_) => Ok(()),
         Err(refusal) => Err(refusal),
     }

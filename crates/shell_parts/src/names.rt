@@ -1,12 +1,12 @@
 //! The names that a script binds.
 
-ghost use Rattle.std.specs.Prelude.{◌≡◌, [], IfErr, OnErr, OnOk};
+ghost use Rattle.std.specs.Prelude.{◌≡◌, [], OnErr, OnOk};
 ghost use Rattle.std.specs.Option.{option_copied};
 ghost use Rattle.shell_parts.specs.Bindings.{bind, bound_to};
 
-use base_core::{ClassId, ListOf, Name, ObjId, Refusal};
+use base_core::{ClassId, ListOf, Name, ObjId};
 use indexmap::IndexMap;
-use std::alloc::Global;
+use std::alloc::{AllocError, Global};
 use std::marker::Model;
 
 /// What a name of the script stands for.
@@ -54,11 +54,10 @@ impl Names {
     }
 
     #[tactic(auto, using(crate::proofs::BindingLemmas::entry_bound))]
-    /// Binds a name in place of an earlier binding. The only refusal is `Memory`, and it leaves the names as they were.
-    pub fn bind(&mut self, name: &Name, bound: Bound) -> Result<(), Refusal>
+    /// Binds a name in place of an earlier binding. Where memory runs out it leaves the names as they were.
+    pub fn bind(&mut self, name: &Name, bound: Bound) -> Result<(), AllocError>
         ensures ok { OnOk result (self.new ≡ bind self.old name.now bound) }
         ensures err { OnErr result (self.new ≡ self.old) }
-        ensures cause { IfErr result (λ e. e ≡ Refusal.Memory) }
     {
         let name = String::from_str(self.alloc, name.get())?;
         self.bound.insert(name, bound)?;

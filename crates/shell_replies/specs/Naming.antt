@@ -34,9 +34,9 @@ has_object graph object = nat_lt 0 object.0 && nat_lt (place_of object) (length 
 abbrev pub name_of_object : Mapped → Graph → ObjId → List ℕ
 name_of_object mapped graph object = if has_object graph object then class_name mapped (object_at graph object).class else []
 
--- all declarations were checked, and a class of this number is declared
+-- a class of this number is declared
 abbrev pub has_class : Mapped → ClassId → Bool
-has_class mapped class = mapped.configured && nat_lt class.0 (length mapped.classes.specs)
+has_class mapped class = nat_lt class.0 (length mapped.classes.specs)
 
 abbrev pub attribute_or_none : Option Attribute → List ℕ
 attribute_or_none None = []

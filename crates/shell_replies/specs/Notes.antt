@@ -10,14 +10,13 @@ use Rattle.keeper_core.specs.declared.notes.Note.{Note}
 use Rattle.keeper_core.specs.declared.notes.Note.TheVariants as note
 use Rattle.printing.specs.Texts.{warning_text}
 use Rattle.schema_core.specs.Catalog.{Catalog}
-use Rattle.statement_lines.specs.StatementLines.{quoting_of}
 use Rattle.statement_lines.specs.Echo.{note_alters, sent_lines}
 use Rattle.shell_replies.specs.declared.notes.PrintOptions.{PrintOptions}
 use Rattle.shell_replies.specs.Naming.{session_names}
 
 -- under an echo, the lines of a statement that was sent
 abbrev pub statement_lines : PrintOptions → Catalog → Sent → List ℕ
-statement_lines options schema statement = if options.echo then sent_lines (quoting_of options.dialect) schema statement else []
+statement_lines options schema statement = if options.echo then sent_lines options.dialect schema statement else []
 
 -- the line `warning LINE: WARNING`
 abbrev pub warning_line : Mapped → Graph → ℕ → Warning → List ℕ
@@ -31,7 +30,7 @@ note_lines options line mapped graph (note.Filled object) = []
 
 -- under an echo, the foreign keys that are added once all tables are made
 abbrev pub later_lines : PrintOptions → Catalog → List Note → List ℕ
-later_lines options schema notes = if options.echo then flat_map (note_alters (quoting_of options.dialect) schema) notes else []
+later_lines options schema notes = if options.echo then flat_map (note_alters options.dialect schema) notes else []
 
 -- what is told of what the line of a number did: warnings, and under an echo statements, in the order of their happening
 abbrev pub notes_text : PrintOptions → ℕ → Mapped → Graph → List Note → List ℕ

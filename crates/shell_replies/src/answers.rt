@@ -1,6 +1,6 @@
 //! What is told of a line's answer.
 
-ghost use Rattle.std.specs.Prelude.{◌≡◌, ◌++◌, IfErr, IfOk, OnOk, codes};
+ghost use Rattle.std.specs.Prelude.{◌≡◌, ◌++◌, IfOk, OnOk, codes};
 ghost use Rattle.std.specs.List.{All};
 ghost use Rattle.printing.specs.Texts.{bool_text, with_leading_separators, with_separators};
 ghost use Rattle.schema_core.specs.Catalog.{IsTable};
@@ -9,19 +9,18 @@ ghost use Rattle.shell_replies.specs.Answers.{CanBeTold};
 
 use crate::naming::name_of_class;
 use crate::reply::Reply;
-use base_core::{ClassId, ObjId, Refusal, RowList, TableId};
+use base_core::{ClassId, ObjId, RowList, TableId};
 use class_mapping::Mapping;
 use command_resolve::Answer;
 use object_arena::State;
 use schema_core::Schema;
 use shell_parts::Bound;
-use std::alloc::Global;
+use std::alloc::{AllocError, Global};
 
-/// The reply that tells of an answer. The only refusal is `Memory`.
-pub fn reply_of(alloc: Global, mapping: &Mapping, answer: &Answer) -> Result<Reply, Refusal>
+/// The reply that tells of an answer.
+pub fn reply_of(alloc: Global, mapping: &Mapping, answer: &Answer) -> Result<Reply, AllocError>
     requires declared { CanBeTold mapping.now answer.now }
-    ensures text { IfOk result (λ reply. reply ≡ told.answer_text mapping.now answer.now) }
-    ensures cause { IfErr result (λ e. e ≡ Refusal.Memory) }
+    ensures { IfOk result (λ reply. reply ≡ told.answer_text mapping.now answer.now) }
 {
     let mut reply = Reply::new(alloc);
     put_answer(&mut reply, mapping, answer)?;
@@ -29,11 +28,10 @@ pub fn reply_of(alloc: Global, mapping: &Mapping, answer: &Answer) -> Result<Rep
 }
 
 /// What is told of an answer goes behind a reply.
-fn put_answer(reply: &mut Reply, mapping: &Mapping, answer: &Answer) -> Result<(), Refusal>
+fn put_answer(reply: &mut Reply, mapping: &Mapping, answer: &Answer) -> Result<(), AllocError>
     requires declared { CanBeTold mapping.now answer.now }
-    ensures ok { OnOk result
+    ensures { OnOk result
         (reply.new ≡ reply.old ++ told.answer_text mapping.now answer.now) }
-    ensures cause { IfErr result (λ e. e ≡ Refusal.Memory) }
 {
     match answer {
         Answer::Nothing | Answer::Bind(_, _) => Ok(()),
@@ -48,20 +46,18 @@ fn put_answer(reply: &mut Reply, mapping: &Mapping, answer: &Answer) -> Result<(
 }
 
 /// A line with what is shown of a thing goes behind a reply.
-fn put_thing_line(reply: &mut Reply, mapping: &Mapping, thing: &Bound) -> Result<(), Refusal>
-    ensures ok { OnOk result
+fn put_thing_line(reply: &mut Reply, mapping: &Mapping, thing: &Bound) -> Result<(), AllocError>
+    ensures { OnOk result
         (reply.new ≡ reply.old ++ told.line_of (told.thing_text mapping.now thing.now)) }
-    ensures cause { IfErr result (λ e. e ≡ Refusal.Memory) }
 {
     put_thing(reply, mapping, thing)?;
     reply.put("\n")
 }
 
 /// What is shown of a thing goes behind a reply.
-fn put_thing(reply: &mut Reply, mapping: &Mapping, thing: &Bound) -> Result<(), Refusal>
-    ensures ok { OnOk result
+fn put_thing(reply: &mut Reply, mapping: &Mapping, thing: &Bound) -> Result<(), AllocError>
+    ensures { OnOk result
         (reply.new ≡ reply.old ++ told.thing_text mapping.now thing.now) }
-    ensures cause { IfErr result (λ e. e ≡ Refusal.Memory) }
 {
     match thing {
         Bound::Nothing => reply.put("null"),
@@ -76,10 +72,9 @@ fn put_member(
     reply: &mut Reply,
     mapping: &Mapping,
     member: &(ObjId, ClassId),
-) -> Result<(), Refusal>
-    ensures ok { OnOk result
+) -> Result<(), AllocError>
+    ensures { OnOk result
         (reply.new ≡ reply.old ++ told.member_text mapping.now member.now) }
-    ensures cause { IfErr result (λ e. e ≡ Refusal.Memory) }
 {
     reply.put_object(name_of_class(mapping, member.1), member.0)
 }
@@ -89,10 +84,9 @@ fn put_list(
     reply: &mut Reply,
     mapping: &Mapping,
     members: &[(ObjId, ClassId)],
-) -> Result<(), Refusal>
-    ensures ok { OnOk result (reply.new ≡ reply.old ++ (codes "["
+) -> Result<(), AllocError>
+    ensures { OnOk result (reply.new ≡ reply.old ++ (codes "["
         ++ with_separators (codes ", ") (told.member_text mapping.now) members.now ++ codes "]")) }
-    ensures cause { IfErr result (λ e. e ≡ Refusal.Memory) }
 {
     reply.put("[")?;
     put_members(reply, mapping, members)?;
@@ -104,10 +98,9 @@ fn put_members(
     reply: &mut Reply,
     mapping: &Mapping,
     members: &[(ObjId, ClassId)],
-) -> Result<(), Refusal>
-    ensures ok { OnOk result (reply.new ≡ reply.old
+) -> Result<(), AllocError>
+    ensures { OnOk result (reply.new ≡ reply.old
         ++ with_separators (codes ", ") (told.member_text mapping.now) members.now) }
-    ensures cause { IfErr result (λ e. e ≡ Refusal.Memory) }
 {
     match members.split_first() {
         Some((first, rest)) => {
@@ -123,10 +116,9 @@ fn put_led(
     reply: &mut Reply,
     mapping: &Mapping,
     members: &[(ObjId, ClassId)],
-) -> Result<(), Refusal>
-    ensures ok { OnOk result (reply.new ≡ reply.old
+) -> Result<(), AllocError>
+    ensures { OnOk result (reply.new ≡ reply.old
         ++ with_leading_separators (codes ", ") (told.member_text mapping.now) members.now) }
-    ensures cause { IfErr result (λ e. e ≡ Refusal.Memory) }
 {
     for member in members {
         put_one_led(reply, mapping, member)?;
@@ -139,10 +131,9 @@ fn put_one_led(
     reply: &mut Reply,
     mapping: &Mapping,
     member: &(ObjId, ClassId),
-) -> Result<(), Refusal>
-    ensures ok { OnOk result
+) -> Result<(), AllocError>
+    ensures { OnOk result
         (reply.new ≡ reply.old ++ (codes ", " ++ told.member_text mapping.now member.now)) }
-    ensures cause { IfErr result (λ e. e ≡ Refusal.Memory) }
 {
     reply.put(", ")?;
     put_member(reply, mapping, member)
@@ -153,10 +144,9 @@ fn put_tables(
     reply: &mut Reply,
     schema: &Schema,
     tables: &[(TableId, RowList)],
-) -> Result<(), Refusal>
+) -> Result<(), AllocError>
     requires declared { All (λ table. IsTable schema.now table.0) tables.now }
-    ensures ok { OnOk result (reply.new ≡ reply.old ++ told.tables_text schema.now tables.now) }
-    ensures cause { IfErr result (λ e. e ≡ Refusal.Memory) }
+    ensures { OnOk result (reply.new ≡ reply.old ++ told.tables_text schema.now tables.now) }
 {
     for table in tables {
         reply.put_table(schema.spec(table.0), &table.1)?;

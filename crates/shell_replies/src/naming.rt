@@ -9,18 +9,19 @@ use base_core::{AttrNo, ClassId, ColumnNo, ObjId, RelNo, TableId};
 use class_mapping::Mapping;
 use object_arena::Arena;
 use printing::Naming;
+use schema_core::Schema;
 
-/// The names of a mapping's tables, before there is a session. Every other number gets the empty name.
+/// The names of declared tables, before there is a session. Every other number gets the empty name.
 #[derive(Clone, Copy)]
 pub struct TableNames<'a> {
-    pub mapping: &'a Mapping,
+    pub schema: &'a Schema,
 }
 
 impl<'a> Naming for TableNames<'a> {
-    ghost names = { λ n. naming.table_names n.mapping.now.schema };
+    ghost names = { λ n. naming.table_names n.schema.now };
 
     fn table_name(&self, table: TableId) -> &str {
-        name_of_table(self.mapping, table)
+        name_of_table(self.schema, table)
     }
 
     fn column_name(&self, _table: TableId, _column: ColumnNo) -> &str {
@@ -56,7 +57,7 @@ impl<'a> Naming for SessionNames<'a> {
     ghost names = { λ n. naming.session_names n.mapping.now n.arena.now };
 
     fn table_name(&self, table: TableId) -> &str {
-        name_of_table(self.mapping, table)
+        name_of_table(self.mapping.schema(), table)
     }
 
     fn column_name(&self, table: TableId, column: ColumnNo) -> &str {
@@ -84,10 +85,9 @@ impl<'a> Naming for SessionNames<'a> {
 }
 
 /// The name of a table; one that is not declared has the empty name.
-fn name_of_table(mapping: &Mapping, table: TableId) -> &str
-    ensures { result.now ≡ (spec_of mapping.now.schema table).name }
+fn name_of_table(schema: &Schema, table: TableId) -> &str
+    ensures { result.now ≡ (spec_of schema.now table).name }
 {
-    let schema = mapping.schema();
     if table.0 < schema.count() {
         schema.spec(table).name.get()
     } else {
@@ -120,11 +120,11 @@ fn name_of_column(mapping: &Mapping, table: TableId, column: ColumnNo) -> &str
     }
 }
 
-/// Whether all declarations were checked, and a class of this number is declared.
+/// Whether a class of this number is declared.
 fn has_class(mapping: &Mapping, class: ClassId) -> bool
     ensures { result ≡ naming.has_class mapping.now class }
 {
-    mapping.is_configured() && class.0 < mapping.count()
+    class.0 < mapping.count()
 }
 
 /// The name of an attribute of a class; what is none of a class has the empty name.

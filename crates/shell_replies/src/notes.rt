@@ -1,16 +1,15 @@
 //! What is told of what a line did.
 
-ghost use Rattle.std.specs.Prelude.{◌≡◌, ◌++◌, true, IfErr, OnOk};
+ghost use Rattle.std.specs.Prelude.{◌≡◌, ◌++◌, true, OnOk};
 ghost use Rattle.std.specs.List.{flat_map};
 ghost use Rattle.shell_replies.specs.Notes as told;
 
 use crate::naming::SessionNames;
 use crate::reply::Reply;
-use base_core::Refusal;
+use base_core::Dialect;
 use keeper_core::{Note, Sent};
 use schema_core::Schema;
-use script_types::Dialect;
-use std::alloc::Global;
+use std::alloc::{AllocError, Global};
 
 /// How the texts of statements are printed: in which dialect, and whether those that each line sends are.
 #[derive(Clone, Copy, PartialEq, Eq)]
@@ -19,8 +18,8 @@ pub struct PrintOptions {
     pub echo: bool,
 }
 
-/// What is told of what the line of a number did goes behind a reply: its warnings, and under an echo its statements, in the order
-/// of their happening, and behind them the foreign keys that are added once all tables are made. The only refusal is `Memory`.
+/// What is told of what the line of a number did goes behind a reply: its warnings, and under an echo its statements, in the
+/// order of their happening, and behind them the foreign keys that are added once all tables are made.
 pub fn put_notes(
     reply: &mut Reply,
     alloc: Global,
@@ -28,11 +27,9 @@ pub fn put_notes(
     line: u32,
     names: &SessionNames<'_>,
     notes: &[Note],
-) -> Result<(), Refusal>
-    requires { names.now.mapping.now.schema.resolved ≡ true }
-    ensures ok { OnOk result (reply.new ≡ reply.old
+) -> Result<(), AllocError>
+    ensures { OnOk result (reply.new ≡ reply.old
         ++ told.notes_text options line names.now.mapping.now names.now.arena.now notes.now) }
-    ensures cause { IfErr result (λ e. e ≡ Refusal.Memory) }
 {
     put_each(reply, alloc, options, line, names, notes)?;
     put_later(reply, alloc, options, names.mapping.schema(), notes)
@@ -46,11 +43,9 @@ fn put_each(
     line: u32,
     names: &SessionNames<'_>,
     notes: &[Note],
-) -> Result<(), Refusal>
-    requires { names.now.mapping.now.schema.resolved ≡ true }
-    ensures ok { OnOk result (reply.new ≡ reply.old ++ flat_map
+) -> Result<(), AllocError>
+    ensures { OnOk result (reply.new ≡ reply.old ++ flat_map
         (told.note_lines options line names.now.mapping.now names.now.arena.now) notes.now) }
-    ensures cause { IfErr result (λ e. e ≡ Refusal.Memory) }
 {
     for note in notes {
         put_note(reply, alloc, options, line, names, note)?;
@@ -66,11 +61,9 @@ fn put_note(
     line: u32,
     names: &SessionNames<'_>,
     note: &Note,
-) -> Result<(), Refusal>
-    requires { names.now.mapping.now.schema.resolved ≡ true }
-    ensures ok { OnOk result (reply.new ≡ reply.old
+) -> Result<(), AllocError>
+    ensures { OnOk result (reply.new ≡ reply.old
         ++ told.note_lines options line names.now.mapping.now names.now.arena.now note.now) }
-    ensures cause { IfErr result (λ e. e ≡ Refusal.Memory) }
 {
     match note {
         Note::Sent(sent) => put_statement(reply, alloc, options, names.mapping.schema(), sent),
@@ -86,11 +79,10 @@ fn put_statement(
     options: PrintOptions,
     schema: &Schema,
     sent: &Sent,
-) -> Result<(), Refusal>
+) -> Result<(), AllocError>
     requires { schema.now.resolved ≡ true }
-    ensures ok { OnOk result
+    ensures { OnOk result
         (reply.new ≡ reply.old ++ told.statement_lines options schema.now sent.now) }
-    ensures cause { IfErr result (λ e. e ≡ Refusal.Memory) }
 {
     if options.echo {
         return reply.put_sent(alloc, options.dialect, schema, sent);
@@ -105,11 +97,10 @@ fn put_later(
     options: PrintOptions,
     schema: &Schema,
     notes: &[Note],
-) -> Result<(), Refusal>
+) -> Result<(), AllocError>
     requires { schema.now.resolved ≡ true }
-    ensures ok { OnOk result
+    ensures { OnOk result
         (reply.new ≡ reply.old ++ told.later_lines options schema.now notes.now) }
-    ensures cause { IfErr result (λ e. e ≡ Refusal.Memory) }
 {
     if options.echo {
         return reply.put_later_foreigns(alloc, options.dialect, schema, notes);

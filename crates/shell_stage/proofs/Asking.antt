@@ -12,7 +12,7 @@ use Rattle.keeper_core.specs.Moment.{Moment, Runs}
 use Rattle.keeper_core.specs.Alone.{Tells, alone}
 use Rattle.keeper_core.proofs.AloneLemmas.{asked_tells, tells_err, tells_lost as tells_memory_lost, tells_ok, then_own_err, then_own_ok}
 use Rattle.script_types.specs.declared.command.Command.{Command}
-use Rattle.script_types.specs.declared.command.Dialect.{Dialect}
+use Rattle.base_core.specs.declared.dialect.Dialect.{Dialect}
 use Rattle.sql_semantics.specs.Checked.{Checked, ◌>>=◌}
 use Rattle.statement_lines.specs.CompiledLines.{IsOfCompiling, compiled_line}
 use Rattle.session_scopes.specs.SessionState.{IsInStep, SessionState}

@@ -1,5 +1,5 @@
 -- What a shell's names stand for, as objects are made and names bound.
-use Rattle.std.proofs.Common.{◌≡◌, ℕ, ◌≤◌, Bool, true, false, cond, List, [], ◌∷◌, Option, None, Some, ◌⊎◌, inl, inr, ⊎_elim, if◌then◌else◌, refl, sym, subst, arith}
+use Rattle.std.proofs.Common.{◌≡◌, ℕ, ◌≤◌, Bool, true, false, cond, List, [], ◌∷◌, Option, None, Some, ◌⊎◌, inl, inr, ⊎_elim, if◌then◌else◌, sym, subst, arith}
 use Rattle.std.specs.Map.{lookup}
 use Rattle.indexmap.specs.IndexMap.{insert_entry}
 use Rattle.base_core.specs.declared.ids.ClassId.{ClassId}
@@ -7,8 +7,7 @@ use Rattle.base_core.specs.declared.ids.ObjId.{ObjId}
 use Rattle.schema_core.specs.Catalog.{same_name}
 use Rattle.object_arena.specs.Graph.{Graph}
 use Rattle.class_mapping.specs.Mapped.{Mapped}
-use Rattle.session_scopes.specs.SessionState.{AreThereStill, IsMadeOf, SameObjects, SessionState}
-use Rattle.session_scopes.proofs.SessionLemmas.{there_changed}
+use Rattle.session_scopes.specs.SessionState.{AreThereStill, GoesOn, IsMadeOf, SessionState}
 use Rattle.shell_parts.specs.declared.names.Bound.{Bound}
 use Rattle.shell_parts.specs.declared.names.Bound.TheVariants.{Nothing, Object, Objects, Saved}
 use Rattle.shell_parts.specs.Bindings.{bind, bound_to}
@@ -103,14 +102,13 @@ bound_stays names old new same stay more bound = (
   subst (λ (mapped : Mapped). AreOfDeclared mapped names) (sym same) bound.1,
 )
 
--- the session has the same objects
-pub bound_same : (names : Bindings) (old new : SessionState) → SameObjects old new → AreBound (Configured old) names → AreBound (Configured new) names
-bound_same names old new same bound =
-    bound_stays names old new same.mapping (λ object there. there_changed old.graph new.graph object _ same.classes (there, refl)) same.drawn bound
+-- the session goes on
+pub bound_same : (names : Bindings) (old new : SessionState) → GoesOn old new → AreBound (Configured old) names → AreBound (Configured new) names
+bound_same names old new on bound = bound_stays names old new on.mapping on.there on.drawn bound
 
 -- the same, where the session is that of the stage
-pub bound_in_session : {stage : Stage} {old : SessionState} (names : Bindings) (new : SessionState) → stage ≡ Configured old → SameObjects old new → AreBound stage names → AreBound (Configured new) names
-bound_in_session {old = old} names new is same bound = bound_same names old new same (subst (λ (s : Stage). AreBound s names) is bound)
+pub bound_in_session : {stage : Stage} {old : SessionState} (names : Bindings) (new : SessionState) → stage ≡ Configured old → GoesOn old new → AreBound stage names → AreBound (Configured new) names
+bound_in_session {old = old} names new is on bound = bound_same names old new on (subst (λ (s : Stage). AreBound s names) is bound)
 
 pub bound_after : {stage : Stage} {old : SessionState} (names : Bindings) (new : SessionState) → stage ≡ Configured old → ((names : Bindings) → AreBound (Configured old) names → AreBound (Configured new) names) → AreBound stage names → AreBound (Configured new) names
 bound_after names new is stay bound = stay names (subst (λ (s : Stage). AreBound s names) is bound)

@@ -1,6 +1,6 @@
 -- What becomes of a shell's stage by declarations and by the opening of the session.
 use Rattle.std.proofs.Common.{◌≡◌, ℕ, Option, None, Some, List, [], Result, Ok, Err, IfErr, refl, sym, ap, ◌∙◌, subst, ◌++◌, OnOk}
-use Rattle.base_core.specs.Answers.{Takes}
+use Rattle.base_core.specs.Answers.{Refuses, Takes}
 use Rattle.base_core.specs.declared.refusal.ArgumentKind.{ArgumentKind}
 use Rattle.base_core.specs.declared.refusal.Refusal.{Refusal}
 use Rattle.base_core.specs.declared.refusal.Refusal.TheVariants.{ArgumentError, Memory}
@@ -71,33 +71,31 @@ pub ruleset declaring = (kept_same, kept_declared, declares)
 
 -- ---- the opening
 
--- a mapping is refused for a fault of its declarations
+-- declarations are refused for a fault of theirs
 closing_refusal : (fault : Option ArgumentKind) (mapping : Mapped) (e : Refusal) → configured_unless fault mapping ≡ Err e → IsOwn e
 closing_refusal (Some kind) mapping e is = let same : ArgumentError kind ≡ e = cc in subst IsOwn same (refl, refl)
 closing_refusal None mapping e is = absurd (cc)
 
-stays_open : (mapping now : Mapped) (e : Refusal) → Takes {X = Unit {0}} (λ u. tt) (configure mapping) mapping (Err e) now
-    → Turns {X = Unit {0}} (opened_stage (Declaring mapping)) (Declaring mapping) (Err e) (Declaring now)
+stays_open : (mapping now : Mapped) (e : Refusal) → now ≡ mapping → Refuses e (configure mapping) → Turns {X = Unit {0}} (opened_stage (Declaring mapping)) (Declaring mapping) (Err e) (Declaring now)
 unfolding opened_stage configure
-stays_open mapping now Memory p = Turned tt
-stays_open mapping now e p = Turned (ap session_stage p.1, ap Declaring p.0, closing_refusal (fault_of mapping) mapping e p.1)
+stays_open mapping now Memory back p = Turned tt
+stays_open mapping now e back p = Turned (ap session_stage p, ap Declaring back, closing_refusal (fault_of mapping) mapping e p)
 
--- the mapping was refused, or memory ran out: it is declared as before
+-- the declarations were refused, or memory ran out: they are as before
 pub not_opened : {stage after : Stage} {mapping now : Mapped} {e : Refusal} → stage ≡ Declaring mapping → after ≡ Declaring now
-    → Takes {X = Unit {0}} (λ u. tt) (configure mapping) mapping (Err e) now → IsStageTurn {X = Unit {0}} opened_stage stage (Err e) after
-not_opened {stage = stage} {after = after} {mapping = mapping} {now = now} {e = e} is next p =
+    → now ≡ mapping → Refuses e (configure mapping) → IsStageTurn {X = Unit {0}} opened_stage stage (Err e) after
+not_opened {stage = stage} {after = after} {mapping = mapping} {now = now} {e = e} is next back p =
     subst (λ (s : Stage). IsStageTurn {X = Unit {0}} opened_stage stage (Err e) s) (sym next)
     (subst (λ (s : Stage). IsStageTurn {X = Unit {0}} opened_stage s (Err e) (Declaring now)) (sym is)
-    (record { step = stays_open mapping now e p; kept = kept_over mapping now }))
+    (record { step = stays_open mapping now e back p; kept = kept_over mapping now }))
 
-opens_at : (mapping now : Mapped) → Takes {X = Unit {0}} (λ u. tt) (configure mapping) mapping (Ok tt) now
-    → Turns {X = Unit {0}} (opened_stage (Declaring mapping)) (Declaring mapping) (Ok tt) (Configured (new_session now))
+opens_at : (mapping now : Mapped) → configure mapping ≡ Ok now → Turns {X = Unit {0}} (opened_stage (Declaring mapping)) (Declaring mapping) (Ok tt) (Configured (new_session now))
 unfolding opened_stage
 opens_at mapping now p = Turned (ap session_stage p)
 
 -- all was checked, and the session is open
 pub is_opened : {stage after : Stage} {mapping now : Mapped} {session : SessionState} → stage ≡ Declaring mapping → after ≡ Configured session → session ≡ new_session now
-    → Takes {X = Unit {0}} (λ u. tt) (configure mapping) mapping (Ok tt) now → IsStageTurn {X = Unit {0}} opened_stage stage (Ok tt) after
+    → configure mapping ≡ Ok now → IsStageTurn {X = Unit {0}} opened_stage stage (Ok tt) after
 is_opened {stage = stage} {after = after} {mapping = mapping} {now = now} {session = session} is next new p =
     subst (λ (s : Stage). IsStageTurn {X = Unit {0}} opened_stage stage (Ok tt) s) (sym next)
     (subst (λ (s : Stage). IsStageTurn {X = Unit {0}} opened_stage s (Ok tt) (Configured session)) (sym is)
@@ -111,7 +109,7 @@ pub ruleset opening = (kept_same, not_opened, is_opened)
 -- ---- what was noted is told, and forgotten
 
 -- what the session noted was told
-pub notes_put : (r : Result (Unit {0}) Refusal) (options : PrintOptions) (line : ℕ) (old new : List ℕ) (mapped own : Mapped) (graph here : Graph) (notes mine : List Note)
+pub notes_put : {E : Type 0} (r : Result (Unit {0}) E) (options : PrintOptions) (line : ℕ) (old new : List ℕ) (mapped own : Mapped) (graph here : Graph) (notes mine : List Note)
     → mapped ≡ own → graph ≡ here → notes ≡ mine → OnOk r (new ≡ old ++ notes_text options line mapped graph notes) → OnOk r (new ≡ old ++ notes_text options line own here mine)
 notes_put r options line old new mapped own graph here notes mine same objects noted p =
     subst (λ (m : Mapped). OnOk r (new ≡ old ++ notes_text options line m here mine)) same

@@ -8,7 +8,7 @@ use Rattle.schema_core.specs.Catalog.{Catalog}
 use Rattle.sql_semantics.specs.Checked.{Checked, ◌>>=◌}
 use Rattle.script_types.specs.declared.command.Command.{Command}
 use Rattle.script_types.specs.declared.command.Command.TheVariants as line
-use Rattle.script_types.specs.declared.command.Dialect.{Dialect}
+use Rattle.base_core.specs.declared.dialect.Dialect.{Dialect}
 use Rattle.command_resolve.specs.declared.resolved.Resolved.{Resolved}
 use Rattle.command_resolve.specs.Resolving.{resolve}
 use Rattle.command_names.specs.Terms.{Bindings}

@@ -8,7 +8,7 @@ use Rattle.printing.specs.Texts.{Names}
 use Rattle.class_mapping.specs.Mapped.{Mapped}
 use Rattle.class_mapping.specs.Declaring as declaring
 use Rattle.script_types.specs.declared.command.Command.{Command}
-use Rattle.script_types.specs.declared.command.Dialect.{Dialect}
+use Rattle.base_core.specs.declared.dialect.Dialect.{Dialect}
 use Rattle.shell_parts.specs.declared.block.Block.{Block}
 use Rattle.shell_parts.specs.Bindings.{bind}
 use Rattle.shell_parts.specs.Blocks.{declare}
@@ -28,8 +28,8 @@ use Rattle.shell_stage.specs.Asking.{asked}
 
 -- ---- declarations
 
-abbrev pub session_stage : Result (Unit {0} × Mapped) Refusal → Result Stage Refusal
-session_stage (Ok p) = Ok (Configured (new_session p.1))
+abbrev pub session_stage : Result Mapped Refusal → Result Stage Refusal
+session_stage (Ok mapping) = Ok (Configured (new_session mapping))
 session_stage (Err e) = Err e
 
 -- all declarations are checked, and a session opens over them

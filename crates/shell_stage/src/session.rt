@@ -1,6 +1,6 @@
 //! A command of the session over a keeper.
 
-ghost use Rattle.std.specs.Prelude.{◌≡◌, ℕ, true, IfErr, IfOk};
+ghost use Rattle.std.specs.Prelude.{ℕ, IfErr, IfOk};
 ghost use Rattle.base_core.specs.Answers.{Gives};
 ghost use Rattle.class_types.specs.Shown.{rules_of};
 ghost use Rattle.object_arena.specs.Graph.{Graph};
@@ -13,12 +13,12 @@ ghost use Rattle.shell_stage.specs.Asking as asking;
 ghost use Rattle.shell_stage.specs.Calls.{IsCommandCall};
 ghost use Rattle.shell_stage.specs.Step as step;
 
-use base_core::Refusal;
+use base_core::{Dialect, Refusal};
 use class_mapping::Mapping;
 use class_types::Hooks;
 use command_resolve::{Answer, Resolved, resolve};
 use keeper_core::Keeper;
-use script_types::{Command, Dialect};
+use script_types::Command;
 use session_perform::perform;
 use session_scopes::Session;
 use shell_parts::Names;
@@ -62,7 +62,6 @@ fn resolve_line(
 ) -> Result<Resolved, Refusal>
     requires sayable { IsSayable command.now }
     requires declared { AreOfDeclared mapping.now names.now }
-    requires configured { mapping.now.configured ≡ true }
     ensures line { Gives (λ line. line) result
         (asking.asked dialect mapping.now names.now command.now) }
     ensures cause { IfErr result IsOfCompiling }
@@ -80,12 +79,10 @@ fn check_texts(
     mapping: &Mapping,
     command: &Command,
 ) -> Result<(), Refusal>
-    requires configured { mapping.now.configured ≡ true }
     ensures told { Gives (λ u. u) result
         (asking.has_texts dialect mapping.now.schema command.now) }
     ensures cause { IfErr result IsOfCompiling }
 {
-    let _resolved = mapping.is_configured();
     match command {
         Command::CreateAll => compile_tables(alloc, dialect, mapping.schema()),
         _ => Ok(()),

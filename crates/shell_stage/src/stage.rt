@@ -1,31 +1,33 @@
 //! Declarations, and then the session.
 
-ghost use Rattle.std.specs.Prelude.{◌≡◌, ◌++◌, IfErr, OnOk};
+ghost use Rattle.std.specs.Prelude.{◌≡◌, ◌++◌, IfErr, IfOk, OnOk};
 ghost use Rattle.base_core.specs.Answers.{Gives};
 ghost use Rattle.class_types.specs.Shown.{rules_of};
 ghost use Rattle.statement_lines.specs.CompiledLines.{IsOfCompiling, compiled_line};
 ghost use Rattle.keeper_core.specs.Alone.{Tells};
 ghost use Rattle.sayable_lines.specs.Sayable.{IsSayable};
 ghost use Rattle.shell_replies.specs.Replies.{error_line};
+ghost use Rattle.shell_replies.specs.Answers.{answer_text};
 ghost use Rattle.shell_stage.specs.Asking.{compiled_at};
 ghost use Rattle.shell_stage.specs.Calls.{IsStageTurn};
-ghost use Rattle.shell_stage.specs.Stages.{IsKept, mapping_of};
+ghost use Rattle.shell_stage.specs.Stages.{IsAnswerAt, IsKept, mapping_of};
 ghost use Rattle.shell_stage.specs.Step as step;
 
 use base_core::{Refusal, RequestKind};
-use class_mapping::Mapping;
+use class_mapping::{Declarations, RefusedDeclarations};
 use class_types::Hooks;
+use command_resolve::Answer;
 use script_types::Command;
 use session_scopes::Session;
 use shell_parts::Block;
-use shell_replies::{PrintOptions, Reply, SessionNames, TableNames, put_notes};
+use shell_replies::{PrintOptions, Reply, SessionNames, TableNames, put_notes, reply_of};
 use statement_lines::compile_line;
-use std::alloc::Global;
+use std::alloc::{AllocError, Global};
 use std::mem::{drop, replace};
 
 /// Declarations until `configure`, and from then on the session.
 pub enum Stage {
-    Declaring(Mapping),
+    Declaring(Declarations),
     Configured(Session),
 }
 
@@ -39,7 +41,7 @@ impl Drop for Stage {
 }
 
 impl Stage {
-    /// Checks all declarations, closes the mapping and opens the session.
+    /// Checks all declarations, and opens the session over the mapping.
     ///
     /// # Errors
     /// `Configured` where that was done, and `ArgumentError` for the first wrong declaration.
@@ -47,13 +49,23 @@ impl Stage {
     pub fn configure(&mut self, alloc: Global) -> Result<(), Refusal>
         ensures { IsStageTurn step.opened_stage self.old result self.new }
     {
-        let Stage::Declaring(mapping) = self else {
+        let Stage::Declaring(declarations) = self else {
             return Err(Refusal::InvalidRequestError(RequestKind::Configured));
         };
-        mapping.configure()?;
-        let mapping = replace(mapping, Mapping::new(alloc));
-        drop(replace(self, Stage::Configured(Session::new(alloc, mapping))));
-        Ok(())
+        match replace(declarations, Declarations::new(alloc)).configure() {
+            Ok(mapping) => {
+                drop(replace(self, Stage::Configured(Session::new(alloc, mapping))));
+                Ok(())
+            }
+            Err(refused) => {
+                let RefusedDeclarations {
+                    declarations: back,
+                    refusal,
+                } = refused;
+                drop(replace(declarations, back));
+                Err(refusal)
+            }
+        }
     }
 
     /// Declares what a block says, where these validators are known.
@@ -66,7 +78,7 @@ impl Stage {
             self.old result self.new }
     {
         match self {
-            Stage::Declaring(mapping) => block.declare(hooks, mapping),
+            Stage::Declaring(declarations) => block.declare(hooks, declarations),
             Stage::Configured(_) => {
                 drop(block);
                 Err(Refusal::InvalidRequestError(RequestKind::Configured))
@@ -74,30 +86,33 @@ impl Stage {
         }
     }
 
-    /// The mapping that is declared, or that of the session.
-    pub fn mapping(&self) -> &Mapping
-        ensures { result.now ≡ mapping_of self.now }
+    /// The reply that tells of an answer of the session.
+    pub fn reply_to(&self, alloc: Global, answer: &Answer) -> Result<Reply, AllocError>
+        requires { IsAnswerAt self.now answer.now }
+        ensures { IfOk result (λ reply. reply ≡ answer_text (mapping_of self.now) answer.now) }
     {
         match self {
-            Stage::Declaring(mapping) => mapping,
-            Stage::Configured(session) => session.mapping(),
+            Stage::Declaring(_) => Ok(Reply::new(alloc)),
+            Stage::Configured(session) => reply_of(alloc, session.mapping(), answer),
         }
     }
 
-    /// The line that says why the line of this number is refused, as all of a reply. The only refusal is `Memory`.
+    /// The line that says why the line of this number is refused, as all of a reply.
     pub fn put_error(
         &self,
         reply: &mut Reply,
         number: u32,
         refusal: &Refusal,
-    ) -> Result<(), Refusal>
-        ensures ok { OnOk result
+    ) -> Result<(), AllocError>
+        ensures { OnOk result
             (reply.new ≡ error_line (step.names_at self.now) number refusal.now) }
-        ensures cause { IfErr result (λ e. e ≡ Refusal.Memory) }
     {
         match self {
-            Stage::Declaring(mapping) => {
-                reply.put_error(number, refusal, &TableNames { mapping })
+            Stage::Declaring(declarations) => {
+                let names = TableNames {
+                    schema: declarations.schema(),
+                };
+                reply.put_error(number, refusal, &names)
             }
             Stage::Configured(session) => {
                 let names = SessionNames {
@@ -124,17 +139,16 @@ impl Stage {
         }
     }
 
-    /// What is told of what the session noted in the line of a number goes behind a reply. The only refusal is `Memory`.
+    /// What is told of what the session noted in the line of a number goes behind a reply.
     pub fn put_notes(
         &self,
         alloc: Global,
         options: PrintOptions,
         line: u32,
         reply: &mut Reply,
-    ) -> Result<(), Refusal>
-        ensures ok { OnOk result
+    ) -> Result<(), AllocError>
+        ensures { OnOk result
             (reply.new ≡ reply.old ++ step.notes_at options line self.now) }
-        ensures cause { IfErr result (λ e. e ≡ Refusal.Memory) }
     {
         match self {
             Stage::Declaring(_) => Ok(()),
@@ -168,20 +182,18 @@ fn compiled(alloc: Global, session: &Session, command: &Command) -> Result<Reply
     Ok(Reply::of_text(text))
 }
 
-/// What is told of what a session noted in the line of a number goes behind a reply. The only refusal is `Memory`.
+/// What is told of what a session noted in the line of a number goes behind a reply.
 fn put_session_notes(
     alloc: Global,
     options: PrintOptions,
     line: u32,
     session: &Session,
     reply: &mut Reply,
-) -> Result<(), Refusal>
-    ensures ok { OnOk result (reply.new ≡ reply.old
+) -> Result<(), AllocError>
+    ensures { OnOk result (reply.new ≡ reply.old
         ++ step.notes_at options line (Stage.Configured session.now)) }
-    ensures cause { IfErr result (λ e. e ≡ Refusal.Memory) }
 {
     let mapping = session.mapping();
-    let _resolved = mapping.is_configured();
     let names = SessionNames {
         mapping,
         arena: session.arena(),

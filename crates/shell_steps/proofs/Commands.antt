@@ -5,7 +5,6 @@ use Rattle.base_core.specs.declared.refusal.Refusal.TheVariants.{InvalidRequestE
 use Rattle.base_core.specs.declared.refusal.RequestKind.TheVariants.{NotConfigured}
 use Rattle.class_mapping.specs.Mapped.{Mapped}
 use Rattle.class_types.specs.Rules.{Rules}
-use Rattle.object_arena.specs.Graph.{Graph}
 use Rattle.keeper_core.specs.Store.{Store}
 use Rattle.keeper_core.specs.Programs.{Run, ends_early, quiet, refuse}
 use Rattle.keeper_core.specs.Moment.{AsTold, IsCutOff, IsRun, Moment, Outcome, Ran, Runs, Told}
@@ -15,13 +14,13 @@ use Rattle.keeper_core.proofs.AloneLemmas.{alone_lost, alone_ok, beside_alone}
 use Rattle.keeper_core.proofs.Lifting.{chosen, same_beside}
 use Rattle.keeper_core.proofs.Sequence.{refused, then_err, then_ok}
 use Rattle.script_types.specs.declared.command.Command.{Command}
-use Rattle.script_types.specs.declared.command.Dialect.{Dialect}
+use Rattle.base_core.specs.declared.dialect.Dialect.{Dialect}
 use Rattle.session_parts.specs.Depths.{StaysAt}
 use Rattle.session_scopes.specs.SessionState.{SessionState}
 use Rattle.command_resolve.specs.declared.answer.Answer.{Answer}
 use Rattle.command_resolve.specs.Standing.{IsAnswer}
 use Rattle.command_names.specs.Terms.{Bindings}
-use Rattle.shell_replies.specs.Answers.{CanBeTold, answer_text}
+use Rattle.shell_replies.specs.Answers.{answer_text}
 use Rattle.command_resolve.specs.declared.answer.Answer.TheVariants as answer
 use Rattle.shell_stage.specs.declared.stage.Stage.{Stage}
 use Rattle.shell_stage.specs.declared.stage.Stage.TheVariants.{Declaring, Configured}
@@ -114,17 +113,6 @@ pub ruleset performing = (performs, performs_not, answers_in)
 
 -- ---- its answer
 
-can_be_told : (mapped : Mapped) (graph : Graph) (drawn : ℕ) (it : Answer) → IsAnswer mapped graph drawn it → CanBeTold mapped it
-can_be_told mapped graph drawn (answer.Tables tables) is = is
-can_be_told mapped graph drawn other is = tt
-
-told_at : (stage : Stage) (it : Answer) → IsAnswerAt stage it → CanBeTold (mapping_of stage) it
-told_at (Declaring mapping) it is = absurd is
-told_at (Configured session) it is = can_be_told session.mapping session.graph session.drawn.drawn it is
-
-pub tellable : (stage : Stage) (it : Answer) (mapped : Mapped) → mapped ≡ mapping_of stage → IsAnswerAt stage it → CanBeTold mapped it
-tellable stage it mapped same is = subst (λ (m : Mapped). CanBeTold m it) (sym same) (told_at stage it is)
-
 tells_answer : (it : Answer) (own : ShellState) (names : Bindings) (reply : List ℕ) → names ≡ names_with it own.names → reply ≡ answer_text (mapping_of own.stage) it → IsShellCallAlone (tell_answer it) own (Ok reply) (record own { names = names })
 unfolding tell_answer
 tells_answer it own names reply is text = record {
@@ -134,11 +122,10 @@ tells_answer it own names reply is text = record {
 }
 
 -- the answer was told, and what is to be bound was bound
-pub tells_view : (it : Answer) (inside own : ShellState) (names : Bindings) (reply : List ℕ) (mapped : Mapped) → inside ≡ own → names ≡ names_with it inside.names → mapped ≡ mapping_of inside.stage → reply ≡ answer_text mapped it
+pub tells_view : (it : Answer) (inside own : ShellState) (names : Bindings) (reply : List ℕ) → inside ≡ own → names ≡ names_with it inside.names → reply ≡ answer_text (mapping_of inside.stage) it
     → IsShellCallAlone (tell_answer it) own (Ok reply) (record inside { names = names })
-tells_view it inside own names reply mapped here is same text =
-    subst (λ (s : ShellState). IsShellCallAlone (tell_answer it) s (Ok reply) (record inside { names = names })) here
-    (tells_answer it inside names reply is (text ∙ ap (λ (m : Mapped). answer_text m it) same))
+tells_view it inside own names reply here is text =
+    subst (λ (s : ShellState). IsShellCallAlone (tell_answer it) s (Ok reply) (record inside { names = names })) here (tells_answer it inside names reply is text)
 
 -- memory ran out
 pub tells_lost : (it : Answer) (own after : ShellState) (e : Refusal) (r : Result (List ℕ) Refusal) → IsErrAnd r (λ d. d ≡ e) → e ≡ Memory → after.stage ≡ own.stage → IsShellCallAlone (tell_answer it) own r after
@@ -147,8 +134,6 @@ tells_lost it own after e (Err d) same cause is = record {
   step = subst (λ (c : Refusal). Runs alone (λ (text : List ℕ). text) (tell_answer it) own (Err c) after) (sym (same ∙ cause)) alone_lost;
   stage = is;
 }
-
-pub ruleset answered = (tellable)
 
 ready_same : (r : Result (List ℕ) Refusal) (old new : Stage) (moment : Moment Store) → new ≡ old → IsReady old moment → StaysReady r new moment
 ready_same (Ok x) old new moment is ready = subst (λ (s : Stage). IsReady s moment) (sym is) ready

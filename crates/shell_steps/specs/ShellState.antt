@@ -18,9 +18,9 @@ pub record ShellState : Type 0 where
   pub names : Bindings
   pub desk : DeskState
 
--- a mapping that declares nothing
+-- no declarations
 abbrev pub new_mapping : Mapped
-new_mapping = record { schema = record { tables = []; resolved = false }; classes = record { specs = []; lines = [] }; configured = false }
+new_mapping = record { schema = record { tables = []; resolved = false }; classes = record { specs = []; lines = [] } }
 
 -- a shell before the first line
 abbrev pub new_shell : PrintOptions → ShellState

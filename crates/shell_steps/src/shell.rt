@@ -15,7 +15,7 @@ ghost use Rattle.shell_steps.specs.ShellState.{new_shell};
 ghost use Rattle.shell_steps.specs.Step as step;
 
 use base_core::{Refusal, RequestKind};
-use class_mapping::Mapping;
+use class_mapping::Declarations;
 use class_types::Hooks;
 use command_resolve::Answer;
 use keeper_core::{Keeper, calls};
@@ -23,9 +23,9 @@ use script_types::Command;
 use session_calls::close;
 use shell_lines::{Desk, Said};
 use shell_parts::{Block, Names};
-use shell_replies::{PrintOptions, Reply, reply_of};
+use shell_replies::{PrintOptions, Reply};
 use shell_stage::{Stage, bind, perform_line};
-use std::alloc::Global;
+use std::alloc::{AllocError, Global};
 use std::marker::Model;
 use std::mem::drop;
 
@@ -78,7 +78,7 @@ impl Shell {
         Shell {
             alloc,
             options,
-            stage: Stage::Declaring(Mapping::new(alloc)),
+            stage: Stage::Declaring(Declarations::new(alloc)),
             names: Names::new(alloc),
             desk: Desk::new(),
         }
@@ -152,10 +152,9 @@ impl Shell {
         Ok(told)
     }
 
-    /// What is told of what the line did, and behind it a reply. The only refusal is `Memory`.
-    fn with_notes(&self, reply: &Reply) -> Result<Reply, Refusal>
-        ensures told { IfOk result (λ told. told ≡ step.notes_told self.now ++ reply.now) }
-        ensures cause { IfErr result (λ e. e ≡ Refusal.Memory) }
+    /// What is told of what the line did, and behind it a reply.
+    fn with_notes(&self, reply: &Reply) -> Result<Reply, AllocError>
+        ensures { IfOk result (λ told. told ≡ step.notes_told self.now ++ reply.now) }
     {
         let mut told = Reply::new(self.alloc);
         self.stage
@@ -315,13 +314,13 @@ impl Shell {
     }
 
     /// The reply that tells of an answer; what is to be bound is bound. The only refusal is `Memory`.
-    #[tactic(auto, using(crate::proofs::Commands::answered, shell_stage::proofs::Bindings::bindings), unfolding(crate::specs::Step::tell_answer))]
+    #[tactic(auto, using(shell_stage::proofs::Bindings::bindings), unfolding(crate::specs::Step::tell_answer))]
     fn tell_answer(&mut self, answer: Answer) -> Result<Reply, Refusal>
         requires { IsAnswerAt self.old.stage answer }
         ensures call { IsShellCallAlone (step.tell_answer answer) self.old result self.new }
         ensures cause { IfErr result (λ e. e ≡ Refusal.Memory) }
     {
-        let reply = reply_of(self.alloc, self.stage.mapping(), &answer)?;
+        let reply = self.stage.reply_to(self.alloc, &answer)?;
         bind(&mut self.names, answer)?;
         Ok(reply)
     }

@@ -1,14 +1,13 @@
 //! The shipped validators, and who is lent them.
 
-ghost use Rattle.std.specs.Prelude.{◌≡◌, ⊤, None, IfErr, IfOk};
-ghost use Rattle.base_core.specs.declared.refusal.Refusal.TheVariants.{Memory};
+ghost use Rattle.std.specs.Prelude.{◌≡◌, ⊤, None, OnErr, IfOk};
 ghost use Rattle.class_types.specs.Shown.{rules_of};
 ghost use Rattle.shipped_validators.specs.Shipped.{shipped_rules};
 
-use base_core::{Kind, Name, Refusal, Value};
+use base_core::{Kind, Name, Value};
 use class_types::{Hooks, Rule, Validator, has_at, is_nonempty, is_positive, is_short};
 use keeper_core::Keeper;
-use std::alloc::Global;
+use std::alloc::{AllocError, Global};
 
 /// What is done with validators over a keeper that was given no target.
 pub trait WithValidators {
@@ -23,9 +22,8 @@ pub trait WithValidators {
 }
 
 /// The name of a validator.
-fn hook_name(alloc: Global, name: &str) -> Result<Name, Refusal>
-    ensures ok { IfOk result (λ made. made ≡ name.now) }
-    ensures cause { IfErr result (λ e. e ≡ Memory) }
+fn hook_name(alloc: Global, name: &str) -> Result<Name, AllocError>
+    ensures { IfOk result (λ made. made ≡ name.now) }
 {
     Ok(Name::new(String::from_str(alloc, name)?))
 }
@@ -33,16 +31,15 @@ fn hook_name(alloc: Global, name: &str) -> Result<Name, Refusal>
 /// Does it over a keeper with the validators `positive` (an integer that is at least 1), `nonempty` (a text of at least one character),
 /// `short` (a text of at most 40 characters) and `has_at` (a text with an `@`).
 ///
-/// # Errors
-/// `Memory`, and then nothing is done.
+/// Where memory runs out nothing is done.
 pub fn with_shipped<K: Keeper, P: WithValidators>(
     alloc: Global,
     keeper: &mut K,
     program: &mut P,
-) -> Result<(), Refusal>
+) -> Result<(), AllocError>
     requires { (K.moment keeper.old).target ≡ None }
     ensures done { IfOk result (λ _. P.is_done program.new) }
-    ensures refused { IfErr result (λ e. (e ≡ Memory) × (program.new ≡ program.old)) }
+    ensures refused { OnErr result (program.new ≡ program.old) }
 {
     let mut hooks = Hooks::new(alloc);
     let positive = Box::new(alloc, |value: &Value| is_positive(value))?;

@@ -15,8 +15,8 @@ use Rattle.expr_types.specs.declared.expr.Func.{Func}
 use Rattle.expr_types.specs.declared.expr.Func.TheVariants.{Count, Sum, Min, Max, Lower, Upper, Length, Coalesce}
 use Rattle.expr_types.specs.declared.expr.Origin.{Origin}
 use Rattle.sql_semantics.specs.Plain.{name_of, name_or}
-use Rattle.sql_text.specs.declared.names.Quoting.{Quoting}
-use Rattle.sql_text.specs.declared.names.Quoting.TheVariants.{Sqlite, Postgresql, Mysql}
+use Rattle.base_core.specs.declared.dialect.Dialect.{Dialect}
+use Rattle.base_core.specs.declared.dialect.Dialect.TheVariants.{Sqlite, Postgresql, Mysql}
 use Rattle.sql_text.specs.Columns.{column_name}
 use Rattle.sql_text.specs.Rules as rules
 use Rattle.sql_text.specs.Words.{null_word, like_word, ilike_word, in_word, empty_word, between_word, distinct_word, sqlite_distinct_word}
@@ -85,12 +85,12 @@ arith_level Add = 5
 arith_level Sub = 5
 arith_level Mul = 6
 
-abbrev pub concat_level : Quoting → ℕ
+abbrev pub concat_level : Dialect → ℕ
 concat_level Sqlite = 5
 concat_level Postgresql = 5
 concat_level Mysql = 8
 
-abbrev pub distinct_level : Quoting → Bool → ℕ
+abbrev pub distinct_level : Dialect → Bool → ℕ
 distinct_level Sqlite negated = 4
 distinct_level Postgresql negated = 4
 distinct_level Mysql false = 3
@@ -103,25 +103,25 @@ in_level (v ∷ values) = 4
 abbrev pub exists_level : Bool → ℕ
 exists_level negated = rules.exists_level negated
 
-abbrev pub level_at : {A : Type 0} → Quoting → Expr-F A → ℕ
-level_at quoting (Expr-F.Column source column) = 8
-level_at quoting (Expr-F.Lit v) = 8
-level_at quoting (Expr-F.Compare op a b) = 4
-level_at quoting (Expr-F.IsNull negated a) = 4
-level_at quoting (Expr-F.And parts) = 2
-level_at quoting (Expr-F.Or parts) = 1
-level_at quoting (Expr-F.Not a) = 3
-level_at quoting (Expr-F.Arith op a b) = arith_level op
-level_at quoting (Expr-F.Neg a) = 7
-level_at quoting (Expr-F.Concat a b) = concat_level quoting
-level_at quoting (Expr-F.Like negated a b) = 4
-level_at quoting (Expr-F.Ilike negated a b) = 4
-level_at quoting (Expr-F.InList negated a values) = in_level values
-level_at quoting (Expr-F.Between negated a low high) = 4
-level_at quoting (Expr-F.Distinct negated a b) = distinct_level quoting negated
-level_at quoting (Expr-F.Call function operands) = 8
-level_at quoting Expr-F.CountAll = 8
-level_at quoting (Expr-F.Exists negated origin condition) = exists_level negated
+abbrev pub level_at : {A : Type 0} → Dialect → Expr-F A → ℕ
+level_at dialect (Expr-F.Column source column) = 8
+level_at dialect (Expr-F.Lit v) = 8
+level_at dialect (Expr-F.Compare op a b) = 4
+level_at dialect (Expr-F.IsNull negated a) = 4
+level_at dialect (Expr-F.And parts) = 2
+level_at dialect (Expr-F.Or parts) = 1
+level_at dialect (Expr-F.Not a) = 3
+level_at dialect (Expr-F.Arith op a b) = arith_level op
+level_at dialect (Expr-F.Neg a) = 7
+level_at dialect (Expr-F.Concat a b) = concat_level dialect
+level_at dialect (Expr-F.Like negated a b) = 4
+level_at dialect (Expr-F.Ilike negated a b) = 4
+level_at dialect (Expr-F.InList negated a values) = in_level values
+level_at dialect (Expr-F.Between negated a low high) = 4
+level_at dialect (Expr-F.Distinct negated a b) = distinct_level dialect negated
+level_at dialect (Expr-F.Call function operands) = 8
+level_at dialect Expr-F.CountAll = 8
+level_at dialect (Expr-F.Exists negated origin condition) = exists_level negated
 
 -- ---- expressions
 
@@ -170,7 +170,7 @@ arith_pieces Add a b scope = two 5 6 (arith_word Add) a b scope
 arith_pieces Sub a b scope = two 5 6 (arith_word Sub) a b scope
 arith_pieces Mul a b scope = two 6 7 (arith_word Mul) a b scope
 
-abbrev pub concat_pieces : Quoting → Laid → Laid → List Origin → List Piece
+abbrev pub concat_pieces : Dialect → Laid → Laid → List Origin → List Piece
 concat_pieces Sqlite a b scope = two 5 6 (codes " || ") a b scope
 concat_pieces Postgresql a b scope = two 5 6 (codes " || ") a b scope
 concat_pieces Mysql a b scope = with_closing_parenthesis (codes "concat(") (two 5 6 (codes ", ") a b scope)
@@ -181,7 +181,7 @@ lower_like_word negated = codes ")" ++ (like_word negated ++ codes "lower(")
 abbrev pub lower_like : Bool → Laid → Laid → List Origin → List Piece
 lower_like negated a b scope = with_closing_parenthesis (codes "lower(") (two 5 5 (lower_like_word negated) a b scope)
 
-abbrev pub ilike_pieces : Quoting → Bool → Laid → Laid → List Origin → List Piece
+abbrev pub ilike_pieces : Dialect → Bool → Laid → Laid → List Origin → List Piece
 ilike_pieces Sqlite negated a b scope = lower_like negated a b scope
 ilike_pieces Postgresql negated a b scope = two 5 5 (ilike_word negated) a b scope
 ilike_pieces Mysql negated a b scope = lower_like negated a b scope
@@ -208,7 +208,7 @@ abbrev pub between_pieces : Bool → Laid → Laid → Laid → List Origin → 
 between_pieces negated a low high scope =
     under 5 a scope (beside_two scope low high) ++ words (between_word negated) ∷ under 5 low scope (beside scope a) ++ words (codes " AND ") ∷ under 5 high scope (beside scope a)
 
-abbrev pub distinct_pieces : Quoting → Bool → Laid → Laid → List Origin → List Piece
+abbrev pub distinct_pieces : Dialect → Bool → Laid → Laid → List Origin → List Piece
 distinct_pieces Sqlite negated a b scope = two 5 5 (sqlite_distinct_word negated) a b scope
 distinct_pieces Postgresql negated a b scope = two 5 5 (distinct_word negated) a b scope
 distinct_pieces Mysql false a b scope = with_closing_parenthesis (codes "NOT (") (two 5 5 (codes " <=> ") a b scope)
@@ -221,33 +221,33 @@ abbrev pub exists_pieces : Catalog → Bool → Origin → Laid → List Origin 
 exists_pieces schema negated origin condition scope =
     words (exists_word negated) ∷ source_pieces schema origin ++ words (codes " WHERE ") ∷ condition.pieces (scope ++ origin ∷ []) param ++ words (codes ")") ∷ []
 
-abbrev pub pieces_at : Quoting → Catalog → Expr-F Laid → List Origin → List ℕ → List Piece
-pieces_at quoting schema (Expr-F.Column source column) scope base = column_pieces schema (slice_get scope source) column
-pieces_at quoting schema (Expr-F.Lit v) scope base = value base v ∷ []
-pieces_at quoting schema (Expr-F.Compare op a b) scope base = two 5 5 (compare_word op) a b scope
-pieces_at quoting schema (Expr-F.IsNull negated a) scope base = before a (null_word negated) scope
-pieces_at quoting schema (Expr-F.And operands) scope base = parts 3 (codes " AND ") operands scope
-pieces_at quoting schema (Expr-F.Or operands) scope base = parts 2 (codes " OR ") operands scope
-pieces_at quoting schema (Expr-F.Not a) scope base = behind (codes "NOT ") a scope
-pieces_at quoting schema (Expr-F.Arith op a b) scope base = arith_pieces op a b scope
-pieces_at quoting schema (Expr-F.Neg a) scope base = behind (codes "-") a scope
-pieces_at quoting schema (Expr-F.Concat a b) scope base = concat_pieces quoting a b scope
-pieces_at quoting schema (Expr-F.Like negated a b) scope base = two 5 5 (like_word negated) a b scope
-pieces_at quoting schema (Expr-F.Ilike negated a b) scope base = ilike_pieces quoting negated a b scope
-pieces_at quoting schema (Expr-F.InList negated a values) scope base = in_pieces negated a values scope
-pieces_at quoting schema (Expr-F.Between negated a low high) scope base = between_pieces negated a low high scope
-pieces_at quoting schema (Expr-F.Distinct negated a b) scope base = distinct_pieces quoting negated a b scope
-pieces_at quoting schema (Expr-F.Call function operands) scope base = call_pieces function operands scope
-pieces_at quoting schema Expr-F.CountAll scope base = words (codes "count(*)") ∷ []
-pieces_at quoting schema (Expr-F.Exists negated origin condition) scope base = exists_pieces schema negated origin condition scope
+abbrev pub pieces_at : Dialect → Catalog → Expr-F Laid → List Origin → List ℕ → List Piece
+pieces_at dialect schema (Expr-F.Column source column) scope base = column_pieces schema (slice_get scope source) column
+pieces_at dialect schema (Expr-F.Lit v) scope base = value base v ∷ []
+pieces_at dialect schema (Expr-F.Compare op a b) scope base = two 5 5 (compare_word op) a b scope
+pieces_at dialect schema (Expr-F.IsNull negated a) scope base = before a (null_word negated) scope
+pieces_at dialect schema (Expr-F.And operands) scope base = parts 3 (codes " AND ") operands scope
+pieces_at dialect schema (Expr-F.Or operands) scope base = parts 2 (codes " OR ") operands scope
+pieces_at dialect schema (Expr-F.Not a) scope base = behind (codes "NOT ") a scope
+pieces_at dialect schema (Expr-F.Arith op a b) scope base = arith_pieces op a b scope
+pieces_at dialect schema (Expr-F.Neg a) scope base = behind (codes "-") a scope
+pieces_at dialect schema (Expr-F.Concat a b) scope base = concat_pieces dialect a b scope
+pieces_at dialect schema (Expr-F.Like negated a b) scope base = two 5 5 (like_word negated) a b scope
+pieces_at dialect schema (Expr-F.Ilike negated a b) scope base = ilike_pieces dialect negated a b scope
+pieces_at dialect schema (Expr-F.InList negated a values) scope base = in_pieces negated a values scope
+pieces_at dialect schema (Expr-F.Between negated a low high) scope base = between_pieces negated a low high scope
+pieces_at dialect schema (Expr-F.Distinct negated a b) scope base = distinct_pieces dialect negated a b scope
+pieces_at dialect schema (Expr-F.Call function operands) scope base = call_pieces function operands scope
+pieces_at dialect schema Expr-F.CountAll scope base = words (codes "count(*)") ∷ []
+pieces_at dialect schema (Expr-F.Exists negated origin condition) scope base = exists_pieces schema negated origin condition scope
 
 abbrev pub plain_at : {A : Type 0} → Catalog → Expr-F A → List Origin → Option (List ℕ)
 plain_at schema (Expr-F.Column source column) scope = Some (column_shown schema (slice_get scope source) column)
 plain_at schema level scope = None
 
-abbrev pub laid_level : Quoting → Catalog → Expr-F Laid → Laid
-laid_level quoting schema level = record { level = level_at quoting level; plain = plain_at schema level; pieces = pieces_at quoting schema level }
+abbrev pub laid_level : Dialect → Catalog → Expr-F Laid → Laid
+laid_level dialect schema level = record { level = level_at dialect level; plain = plain_at schema level; pieces = pieces_at dialect schema level }
 
 -- an expression as it is laid out
-unfoldable pub laid : Quoting → Catalog → Expr → Laid
-laid quoting schema = fold-Expr Laid (laid_level quoting schema)
+unfoldable pub laid : Dialect → Catalog → Expr → Laid
+laid dialect schema = fold-Expr Laid (laid_level dialect schema)

@@ -10,10 +10,10 @@ use crate::words::{
     between_word, compare_word, distinct_word, exists_word, function_word, ilike_word, in_word,
     level_of, like_word, lower_like_word, no_in_word, null_word, sqlite_distinct_word,
 };
-use base_core::{ArithOp, ColumnNo, Copied, Refusal, Value};
+use base_core::{ArithOp, ColumnNo, Copied, Dialect, Value};
 use expr_types::{Expr, Func, Origin};
 use schema_core::Schema;
-use sql_text::{Quoting, Writer, arith_least, concat_least, prefix_least, table_name};
+use sql_text::{Writer, arith_least, concat_least, prefix_least, table_name};
 use std::alloc::{AllocError, Global};
 
 /// The base name of a value that is not beside a column.
@@ -26,7 +26,7 @@ pub fn param() -> &'static str
 /// The base name of a value beside this operand: the column's where it is a plain column.
 #[tactic(auto, unfolding(crate::specs::Laid::laid))]
 fn beside<'x>(writer: &Writer, schema: &'x Schema, scope: &[Origin], e: &Expr) -> &'x str
-    ensures { result.now ≡ spec.beside scope.now (laid writer.now.quoting schema.now e.now) }
+    ensures { result.now ≡ spec.beside scope.now (laid writer.now.dialect schema.now e.now) }
 {
     match e {
         Expr::Column(source, column) => column_shown(schema, scope, *source, *column),
@@ -43,8 +43,8 @@ fn beside_two<'x>(
     a: &Expr,
     b: &Expr,
 ) -> &'x str
-    ensures { result.now ≡ spec.beside_two scope.now (laid writer.now.quoting schema.now a.now)
-        (laid writer.now.quoting schema.now b.now) }
+    ensures { result.now ≡ spec.beside_two scope.now (laid writer.now.dialect schema.now a.now)
+        (laid writer.now.dialect schema.now b.now) }
 {
     match a {
         Expr::Column(source, column) => column_shown(schema, scope, *source, *column),
@@ -60,7 +60,7 @@ fn column(
     scope: &[Origin],
     source: u32,
     column: ColumnNo,
-) -> Result<(), Refusal>
+) -> Result<(), AllocError>
     ensures { Wrote (spec.column_pieces schema.now (slice_get scope.now source) column)
         result writer.old writer.new }
 {
@@ -71,7 +71,7 @@ fn column(
 
 /// A source as it stands behind FROM and JOIN.
 #[tactic(auto, using(sql_text::proofs::Steps::steps))]
-pub fn source(writer: &mut Writer, schema: &Schema, origin: &Origin) -> Result<(), Refusal>
+pub fn source(writer: &mut Writer, schema: &Schema, origin: &Origin) -> Result<(), AllocError>
     ensures { Wrote (spec.source_pieces schema.now origin.now) result writer.old writer.new }
 {
     writer.put_shown(table_name(schema, origin.table))?;
@@ -86,7 +86,7 @@ pub fn source(writer: &mut Writer, schema: &Schema, origin: &Origin) -> Result<(
 
 /// The values of a list.
 #[tactic(auto, unfolding(crate::specs::Laid::value_pieces, sql_text::specs::Written::put_all), using(sql_text::proofs::Steps::steps))]
-fn more_values(writer: &mut Writer, base: &str, values: &[Value]) -> Result<(), Refusal>
+fn more_values(writer: &mut Writer, base: &str, values: &[Value]) -> Result<(), AllocError>
     ensures { Wrote (with_leading_separators (codes ", ") (spec.value_pieces base.now) values.now)
         result writer.old writer.new }
 {
@@ -98,7 +98,7 @@ fn more_values(writer: &mut Writer, base: &str, values: &[Value]) -> Result<(), 
 }
 
 #[tactic(auto, unfolding(crate::specs::Laid::value_pieces), using(sql_text::proofs::Steps::steps))]
-fn values_of(writer: &mut Writer, base: &str, values: &[Value]) -> Result<(), Refusal>
+fn values_of(writer: &mut Writer, base: &str, values: &[Value]) -> Result<(), AllocError>
     ensures { Wrote (with_separators (codes ", ") (spec.value_pieces base.now) values.now)
         result writer.old writer.new }
 {
@@ -131,11 +131,11 @@ fn under(
     base: &str,
     least: u8,
     e: &Expr,
-) -> Result<(), Refusal>
-    ensures { Wrote (spec.under least (laid writer.old.quoting schema.now e.now) scope.now base.now)
+) -> Result<(), AllocError>
+    ensures { Wrote (spec.under least (laid writer.old.dialect schema.now e.now) scope.now base.now)
         result writer.old writer.new }
 {
-    if level_of(writer.quoting(), e) < least {
+    if level_of(writer.dialect(), e) < least {
         writer.put_words("(")?;
         expression(writer, schema, scope, base, e)?;
         writer.put_words(")")
@@ -155,9 +155,9 @@ fn two(
     word: &str,
     a: &Expr,
     b: &Expr,
-) -> Result<(), Refusal>
-    ensures { Wrote (spec.two least.0 least.1 word.now (laid writer.old.quoting schema.now a.now)
-        (laid writer.old.quoting schema.now b.now) scope.now) result writer.old writer.new }
+) -> Result<(), AllocError>
+    ensures { Wrote (spec.two least.0 least.1 word.now (laid writer.old.dialect schema.now a.now)
+        (laid writer.old.dialect schema.now b.now) scope.now) result writer.old writer.new }
 {
     let left = beside(writer, schema, scope, b);
     let right = beside(writer, schema, scope, a);
@@ -178,9 +178,9 @@ fn enclosed(
     word: &str,
     a: &Expr,
     b: &Expr,
-) -> Result<(), Refusal>
+) -> Result<(), AllocError>
     ensures { Wrote (spec.with_closing_parenthesis opening.now (spec.two least.0 least.1 word.now
-        (laid writer.old.quoting schema.now a.now) (laid writer.old.quoting schema.now b.now)
+        (laid writer.old.dialect schema.now a.now) (laid writer.old.dialect schema.now b.now)
         scope.now)) result writer.old writer.new }
 {
     writer.put_words(opening)?;
@@ -197,8 +197,8 @@ fn part(
     scope: &[Origin],
     least: u8,
     e: &Expr,
-) -> Result<(), Refusal>
-    ensures { Wrote (spec.part least scope.now (laid writer.old.quoting schema.now e.now))
+) -> Result<(), AllocError>
+    ensures { Wrote (spec.part least scope.now (laid writer.old.dialect schema.now e.now))
         result writer.old writer.new }
 {
     under(writer, schema, scope, param(), least, e)
@@ -214,9 +214,9 @@ fn more_parts(
     least: u8,
     word: &str,
     operands: &[Expr],
-) -> Result<(), Refusal>
+) -> Result<(), AllocError>
     ensures { Wrote (with_leading_separators word.now (spec.part least scope.now) (map
-        (laid writer.old.quoting schema.now) operands.now)) result writer.old writer.new }
+        (laid writer.old.dialect schema.now) operands.now)) result writer.old writer.new }
 {
     for operand in operands {
         writer.put_words(word)?;
@@ -235,9 +235,9 @@ pub fn parts(
     least: u8,
     word: &str,
     operands: &[Expr],
-) -> Result<(), Refusal>
+) -> Result<(), AllocError>
     ensures { Wrote (spec.parts least word.now (map
-        (laid writer.old.quoting schema.now) operands.now) scope.now) result writer.old writer.new }
+        (laid writer.old.dialect schema.now) operands.now) scope.now) result writer.old writer.new }
 {
     let Some((first, others)) = operands.split_first() else {
         return Ok(());
@@ -255,9 +255,9 @@ fn arith(
     op: ArithOp,
     a: &Expr,
     b: &Expr,
-) -> Result<(), Refusal>
-    ensures { Wrote (spec.arith_pieces op (laid writer.old.quoting schema.now a.now)
-        (laid writer.old.quoting schema.now b.now) scope.now) result writer.old writer.new }
+) -> Result<(), AllocError>
+    ensures { Wrote (spec.arith_pieces op (laid writer.old.dialect schema.now a.now)
+        (laid writer.old.dialect schema.now b.now) scope.now) result writer.old writer.new }
 {
     match op {
         ArithOp::Add => two(
@@ -298,16 +298,16 @@ fn concat(
     scope: &[Origin],
     a: &Expr,
     b: &Expr,
-) -> Result<(), Refusal>
-    ensures { Wrote (spec.concat_pieces writer.old.quoting
-        (laid writer.old.quoting schema.now a.now) (laid writer.old.quoting schema.now b.now)
+) -> Result<(), AllocError>
+    ensures { Wrote (spec.concat_pieces writer.old.dialect
+        (laid writer.old.dialect schema.now a.now) (laid writer.old.dialect schema.now b.now)
         scope.now) result writer.old writer.new }
 {
-    match writer.quoting() {
-        Quoting::Sqlite | Quoting::Postgresql => {
+    match writer.dialect() {
+        Dialect::Sqlite | Dialect::Postgresql => {
             two(writer, schema, scope, concat_least(), " || ", a, b)
         }
-        Quoting::Mysql => { enclosed(writer, schema, scope, concat_least(), "concat(", ", ", a, b) }
+        Dialect::Mysql => { enclosed(writer, schema, scope, concat_least(), "concat(", ", ", a, b) }
     }
 }
 
@@ -320,14 +320,14 @@ fn ilike(
     negated: bool,
     a: &Expr,
     b: &Expr,
-) -> Result<(), Refusal>
-    ensures { Wrote (spec.ilike_pieces writer.old.quoting negated
-        (laid writer.old.quoting schema.now a.now) (laid writer.old.quoting schema.now b.now)
+) -> Result<(), AllocError>
+    ensures { Wrote (spec.ilike_pieces writer.old.dialect negated
+        (laid writer.old.dialect schema.now a.now) (laid writer.old.dialect schema.now b.now)
         scope.now) result writer.old writer.new }
 {
-    match writer.quoting() {
-        Quoting::Postgresql => two(writer, schema, scope, (5, 5), ilike_word(negated), a, b),
-        Quoting::Sqlite | Quoting::Mysql => {
+    match writer.dialect() {
+        Dialect::Postgresql => two(writer, schema, scope, (5, 5), ilike_word(negated), a, b),
+        Dialect::Sqlite | Dialect::Mysql => {
             let word = lower_like_word(negated);
             enclosed(writer, schema, scope, (5, 5), "lower(", word, a, b)
         }
@@ -343,8 +343,8 @@ fn no_list(
     scope: &[Origin],
     negated: bool,
     a: &Expr,
-) -> Result<(), Refusal>
-    ensures { Wrote (spec.no_list negated (laid writer.old.quoting schema.now a.now) scope.now)
+) -> Result<(), AllocError>
+    ensures { Wrote (spec.no_list negated (laid writer.old.dialect schema.now a.now) scope.now)
         result writer.old writer.new }
 {
     writer.put_words("(")?;
@@ -361,8 +361,8 @@ fn full_list(
     negated: bool,
     a: &Expr,
     values: &[Value],
-) -> Result<(), Refusal>
-    ensures { Wrote (spec.full_list negated (laid writer.old.quoting schema.now a.now) values.now
+) -> Result<(), AllocError>
+    ensures { Wrote (spec.full_list negated (laid writer.old.dialect schema.now a.now) values.now
         scope.now) result writer.old writer.new }
 {
     let base = beside(writer, schema, scope, a);
@@ -381,8 +381,8 @@ fn in_list(
     negated: bool,
     a: &Expr,
     values: &[Value],
-) -> Result<(), Refusal>
-    ensures { Wrote (spec.in_pieces negated (laid writer.old.quoting schema.now a.now) values.now
+) -> Result<(), AllocError>
+    ensures { Wrote (spec.in_pieces negated (laid writer.old.dialect schema.now a.now) values.now
         scope.now) result writer.old writer.new }
 {
     match values {
@@ -400,8 +400,8 @@ fn behind(
     scope: &[Origin],
     word: &str,
     a: &Expr,
-) -> Result<(), Refusal>
-    ensures { Wrote (spec.behind word.now (laid writer.old.quoting schema.now a.now) scope.now)
+) -> Result<(), AllocError>
+    ensures { Wrote (spec.behind word.now (laid writer.old.dialect schema.now a.now) scope.now)
         result writer.old writer.new }
 {
     writer.put_words(word)?;
@@ -417,8 +417,8 @@ fn before(
     scope: &[Origin],
     word: &str,
     a: &Expr,
-) -> Result<(), Refusal>
-    ensures { Wrote (spec.before (laid writer.old.quoting schema.now a.now) word.now scope.now)
+) -> Result<(), AllocError>
+    ensures { Wrote (spec.before (laid writer.old.dialect schema.now a.now) word.now scope.now)
         result writer.old writer.new }
 {
     under(writer, schema, scope, param(), 5, a)?;
@@ -435,9 +435,9 @@ fn between(
     a: &Expr,
     low: &Expr,
     high: &Expr,
-) -> Result<(), Refusal>
-    ensures { Wrote (spec.between_pieces negated (laid writer.old.quoting schema.now a.now)
-        (laid writer.old.quoting schema.now low.now) (laid writer.old.quoting schema.now high.now)
+) -> Result<(), AllocError>
+    ensures { Wrote (spec.between_pieces negated (laid writer.old.dialect schema.now a.now)
+        (laid writer.old.dialect schema.now low.now) (laid writer.old.dialect schema.now high.now)
         scope.now) result writer.old writer.new }
 {
     let first = beside_two(writer, schema, scope, low, high);
@@ -458,18 +458,18 @@ fn distinct(
     negated: bool,
     a: &Expr,
     b: &Expr,
-) -> Result<(), Refusal>
-    ensures { Wrote (spec.distinct_pieces writer.old.quoting negated
-        (laid writer.old.quoting schema.now a.now) (laid writer.old.quoting schema.now b.now)
+) -> Result<(), AllocError>
+    ensures { Wrote (spec.distinct_pieces writer.old.dialect negated
+        (laid writer.old.dialect schema.now a.now) (laid writer.old.dialect schema.now b.now)
         scope.now) result writer.old writer.new }
 {
-    match writer.quoting() {
-        Quoting::Sqlite => {
+    match writer.dialect() {
+        Dialect::Sqlite => {
             let word = sqlite_distinct_word(negated);
             two(writer, schema, scope, (5, 5), word, a, b)
         }
-        Quoting::Postgresql => two(writer, schema, scope, (5, 5), distinct_word(negated), a, b),
-        Quoting::Mysql => {
+        Dialect::Postgresql => two(writer, schema, scope, (5, 5), distinct_word(negated), a, b),
+        Dialect::Mysql => {
             if negated {
                 two(writer, schema, scope, (5, 5), " <=> ", a, b)
             } else {
@@ -487,9 +487,9 @@ fn call(
     scope: &[Origin],
     function: Func,
     operands: &[Expr],
-) -> Result<(), Refusal>
+) -> Result<(), AllocError>
     ensures { Wrote (spec.call_pieces function (map
-        (laid writer.old.quoting schema.now) operands.now) scope.now) result writer.old writer.new }
+        (laid writer.old.dialect schema.now) operands.now) scope.now) result writer.old writer.new }
 {
     writer.put_words(function_word(function))?;
     parts(writer, schema, scope, 1, ", ", operands)?;
@@ -505,9 +505,9 @@ fn exists(
     negated: bool,
     origin: &Origin,
     condition: &Expr,
-) -> Result<(), Refusal>
+) -> Result<(), AllocError>
     ensures { Wrote (spec.exists_pieces schema.now negated origin.now
-        (laid writer.old.quoting schema.now condition.now) scope.now) result writer.old writer.new }
+        (laid writer.old.dialect schema.now condition.now) scope.now) result writer.old writer.new }
 {
     let inner = entered(writer.alloc(), scope, origin)?;
     writer.put_words(exists_word(negated))?;
@@ -527,8 +527,8 @@ pub fn expression(
     scope: &[Origin],
     base: &str,
     e: &Expr,
-) -> Result<(), Refusal>
-    ensures { Wrote ((laid writer.old.quoting schema.now e.now).pieces scope.now base.now)
+) -> Result<(), AllocError>
+    ensures { Wrote ((laid writer.old.dialect schema.now e.now).pieces scope.now base.now)
         result writer.old writer.new }
 {
     match e {
@@ -573,15 +573,15 @@ pub fn expression(
     }
 }
 
-/// The text of an expression is appended, with its parameters. The only refusal is that memory ran out, and it leaves all
+/// The text of an expression is appended, with its parameters. Where it is refused, all is
 /// as it was.
 pub fn emit_expr(
     writer: &mut Writer,
     schema: &Schema,
     scope: &[Origin],
     e: &Expr,
-) -> Result<(), Refusal>
-    ensures wrote { Wrote ((laid writer.old.quoting schema.now e.now).pieces scope.now spec.param)
+) -> Result<(), AllocError>
+    ensures wrote { Wrote ((laid writer.old.dialect schema.now e.now).pieces scope.now spec.param)
         result writer.old writer.new }
     ensures kept { OnErr result (writer.new ≡ writer.old) }
 {

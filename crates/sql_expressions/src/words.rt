@@ -6,9 +6,9 @@ ghost use Rattle.sql_text.specs.Words.{null_word, like_word, ilike_word, in_word
 ghost use Rattle.sql_expressions.specs.Laid as spec;
 ghost use Rattle.sql_expressions.specs.Laid.{laid};
 
-use base_core::ArithOp;
+use base_core::{ArithOp, Dialect};
 use expr_types::{CompareOp, Expr, Func};
-use sql_text::{Quoting, exists_level};
+use sql_text::exists_level;
 
 pub(crate) fn compare_word(op: CompareOp) -> &'static str
     ensures { result.now ≡ spec.compare_word op }
@@ -127,28 +127,28 @@ fn arith_level(op: ArithOp) -> u8
     }
 }
 
-fn concat_level(quoting: Quoting) -> u8
-    ensures { result ≡ spec.concat_level quoting }
+fn concat_level(dialect: Dialect) -> u8
+    ensures { result ≡ spec.concat_level dialect }
 {
-    match quoting {
-        Quoting::Sqlite | Quoting::Postgresql => 5,
-        Quoting::Mysql => 8,
+    match dialect {
+        Dialect::Sqlite | Dialect::Postgresql => 5,
+        Dialect::Mysql => 8,
     }
 }
 
-fn distinct_level(quoting: Quoting, negated: bool) -> u8
-    ensures { result ≡ spec.distinct_level quoting negated }
+fn distinct_level(dialect: Dialect, negated: bool) -> u8
+    ensures { result ≡ spec.distinct_level dialect negated }
 {
-    match (quoting, negated) {
-        (Quoting::Mysql, false) => 3,
+    match (dialect, negated) {
+        (Dialect::Mysql, false) => 3,
         _ => 4,
     }
 }
 
 /// The level of an expression's text, from 1 for `OR` to 8 for what needs no parentheses anywhere.
 #[tactic(auto, unfolding(crate::specs::Laid::laid))]
-pub(crate) fn level_of(quoting: Quoting, e: &Expr) -> u8
-    ensures { (schema : Catalog) → result ≡ (laid quoting schema e.now).level }
+pub(crate) fn level_of(dialect: Dialect, e: &Expr) -> u8
+    ensures { (schema : Catalog) → result ≡ (laid dialect schema e.now).level }
 {
     match e {
         Expr::Or(_) => 1,
@@ -158,9 +158,9 @@ pub(crate) fn level_of(quoting: Quoting, e: &Expr) -> u8
         Expr::Compare(_, _, _) | Expr::IsNull(_, _) => 4,
         Expr::Like(_, _, _) | Expr::Ilike(_, _, _) | Expr::Between(_, _, _, _) => 4,
         Expr::InList(_, _, values) => { if values.is_empty() { 8 } else { 4 } }
-        Expr::Distinct(negated, _, _) => distinct_level(quoting, *negated),
+        Expr::Distinct(negated, _, _) => distinct_level(dialect, *negated),
         Expr::Arith(op, _, _) => arith_level(*op),
-        Expr::Concat(_, _) => concat_level(quoting),
+        Expr::Concat(_, _) => concat_level(dialect),
         Expr::Neg(_) => 7,
         Expr::Column(_, _) | Expr::Lit(_) | Expr::Call(_, _) | Expr::CountAll => 8,
     }

@@ -10,8 +10,8 @@ use Rattle.schema_core.specs.declared.table.ColumnSpec.{ColumnSpec}
 use Rattle.schema_core.specs.declared.table.TableSpec.{TableSpec}
 use Rattle.schema_core.specs.Apply.{wants_key}
 use Rattle.schema_core.specs.Catalog.{Catalog, spec_of}
-use Rattle.sql_text.specs.declared.names.Quoting.{Quoting}
-use Rattle.sql_text.specs.declared.names.Quoting.TheVariants.{Sqlite, Postgresql, Mysql}
+use Rattle.base_core.specs.declared.dialect.Dialect.{Dialect}
+use Rattle.base_core.specs.declared.dialect.Dialect.TheVariants.{Sqlite, Postgresql, Mysql}
 use Rattle.sql_text.specs.Columns.{column_name}
 use Rattle.sql_text.specs.Written.{Piece, words, name, value, with_separators}
 
@@ -24,7 +24,7 @@ abbrev pub column_piece : Catalog → TableId → ColumnNo → Piece
 column_piece schema table column = name (column_name schema table column)
 
 -- a row without columns
-abbrev pub default_word : Quoting → List ℕ
+abbrev pub default_word : Dialect → List ℕ
 default_word Sqlite = codes " DEFAULT VALUES"
 default_word Postgresql = codes " DEFAULT VALUES"
 default_word Mysql = codes " () VALUES ()"
@@ -66,9 +66,9 @@ lists_pieces drawn columns rows =
     names_pieces drawn (codes " (") columns ++ (words (codes ") VALUES ") ∷ with_separators (codes ", ") (row_list drawn columns) rows)
 
 -- the columns and the rows, or rather that there are no columns
-abbrev pub rows_pieces : Quoting → Bool → List ColumnSpec → List (List Value) → List Piece
-rows_pieces quoting drawn columns rows =
-    if list_all (is_left_out drawn) columns then words (default_word quoting) ∷ [] else lists_pieces drawn columns rows
+abbrev pub rows_pieces : Dialect → Bool → List ColumnSpec → List (List Value) → List Piece
+rows_pieces dialect drawn columns rows =
+    if list_all (is_left_out drawn) columns then words (default_word dialect) ∷ [] else lists_pieces drawn columns rows
 
 -- the key columns, named behind RETURNING
 abbrev pub key_names : List ℕ → List ColumnSpec → List Piece
@@ -77,14 +77,14 @@ key_names table (column ∷ columns) =
     if column.key then words (codes " RETURNING ") ∷ name table ∷ words (codes ".") ∷ name column.name ∷ key_names table columns else key_names table columns
 
 -- PostgreSQL tells the generated key
-abbrev pub returning_pieces : Quoting → Bool → TableSpec → List Piece
+abbrev pub returning_pieces : Dialect → Bool → TableSpec → List Piece
 returning_pieces Sqlite drawn spec = []
 returning_pieces Postgresql drawn spec = if drawn then key_names spec.name spec.columns else []
 returning_pieces Mysql drawn spec = []
 
-abbrev pub insert_rows : Quoting → TableSpec → Bool → List (List Value) → List Piece
-insert_rows quoting spec drawn rows =
-    words (codes "INSERT INTO ") ∷ name spec.name ∷ rows_pieces quoting drawn spec.columns rows ++ returning_pieces quoting drawn spec
+abbrev pub insert_rows : Dialect → TableSpec → Bool → List (List Value) → List Piece
+insert_rows dialect spec drawn rows =
+    words (codes "INSERT INTO ") ∷ name spec.name ∷ rows_pieces dialect drawn spec.columns rows ++ returning_pieces dialect drawn spec
 
 -- ---- UPDATE and DELETE
 
@@ -105,8 +105,8 @@ by_key spec key = key_pieces spec.name (codes " WHERE ") spec.columns key
 abbrev pub cell_pieces : Catalog → TableId → ColumnNo × Value → List Piece
 cell_pieces schema table cell = column_piece schema table cell.0 ∷ words (codes "=") ∷ cell_piece schema table cell.0 cell.1 ∷ []
 
-unfoldable pub row_pieces : Quoting → Catalog → RowStmt → List Piece
-row_pieces quoting schema (row.Insert table rows) = insert_rows quoting (spec_of schema table) (leaves_key (spec_of schema table) rows) rows
-row_pieces quoting schema (row.Update table key cells) =
+unfoldable pub row_pieces : Dialect → Catalog → RowStmt → List Piece
+row_pieces dialect schema (row.Insert table rows) = insert_rows dialect (spec_of schema table) (leaves_key (spec_of schema table) rows) rows
+row_pieces dialect schema (row.Update table key cells) =
     words (codes "UPDATE ") ∷ table_piece schema table ∷ words (codes " SET ") ∷ with_separators (codes ", ") (cell_pieces schema table) cells ++ by_key (spec_of schema table) key
-row_pieces quoting schema (row.Delete table key) = words (codes "DELETE FROM ") ∷ table_piece schema table ∷ by_key (spec_of schema table) key
+row_pieces dialect schema (row.Delete table key) = words (codes "DELETE FROM ") ∷ table_piece schema table ∷ by_key (spec_of schema table) key

@@ -7,17 +7,18 @@ ghost use Rattle.schema_core.specs.Tables.{has_null, is_null, key_cells};
 ghost use Rattle.sql_rows.specs.Rows as spec;
 ghost use Rattle.sql_text.specs.Written.{Wrote, with_leading_separators, with_separators};
 
-use base_core::{ColumnNo, Refusal, RowValues, TableId, Value};
+use base_core::{ColumnNo, Dialect, RowValues, TableId, Value};
 use schema_core::{ColumnSpec, RowStmt, Schema};
-use sql_text::{Quoting, Writer, column_name, columns_of, table_name, tells_key};
+use sql_text::{Writer, column_name, columns_of, table_name, tells_key};
+use std::alloc::AllocError;
 
 /// Stands for the values of a row without columns.
-pub fn default_word(quoting: Quoting) -> &'static str
-    ensures { result.now ≡ spec.default_word quoting }
+pub fn default_word(dialect: Dialect) -> &'static str
+    ensures { result.now ≡ spec.default_word dialect }
 {
-    match quoting {
-        Quoting::Sqlite | Quoting::Postgresql => " DEFAULT VALUES",
-        Quoting::Mysql => " () VALUES ()",
+    match dialect {
+        Dialect::Sqlite | Dialect::Postgresql => " DEFAULT VALUES",
+        Dialect::Mysql => " () VALUES ()",
     }
 }
 
@@ -75,7 +76,7 @@ fn all_left_out(drawn: bool, columns: &[ColumnSpec]) -> bool
 
 /// The names of the columns with a value.
 #[tactic(auto, unfolding(sql_text::specs::Written::put_all), using(sql_text::proofs::Steps::steps))]
-fn names(writer: &mut Writer, drawn: bool, columns: &[ColumnSpec]) -> Result<(), Refusal>
+fn names(writer: &mut Writer, drawn: bool, columns: &[ColumnSpec]) -> Result<(), AllocError>
     ensures { Wrote (spec.names_pieces drawn (codes " (") columns.now)
         result writer.old writer.new }
 {
@@ -98,7 +99,7 @@ fn cells(
     drawn: bool,
     columns: &[ColumnSpec],
     row: &[Value],
-) -> Result<(), Refusal>
+) -> Result<(), AllocError>
     ensures { Wrote (spec.row_cells drawn (codes "(") columns.now row.now)
         result writer.old writer.new }
 {
@@ -125,7 +126,7 @@ fn row_list(
     drawn: bool,
     columns: &[ColumnSpec],
     row: &[Value],
-) -> Result<(), Refusal>
+) -> Result<(), AllocError>
     ensures { Wrote (spec.row_list drawn columns.now row.now) result writer.old writer.new }
 {
     cells(writer, drawn, columns, row)?;
@@ -138,7 +139,7 @@ fn more_rows(
     drawn: bool,
     columns: &[ColumnSpec],
     rows: &[RowValues],
-) -> Result<(), Refusal>
+) -> Result<(), AllocError>
     ensures { Wrote (with_leading_separators (codes ", ") (spec.row_list drawn columns.now) rows.now)
         result writer.old writer.new }
 {
@@ -155,7 +156,7 @@ fn rows_of(
     drawn: bool,
     columns: &[ColumnSpec],
     rows: &[RowValues],
-) -> Result<(), Refusal>
+) -> Result<(), AllocError>
     ensures { Wrote (with_separators (codes ", ") (spec.row_list drawn columns.now) rows.now)
         result writer.old writer.new }
 {
@@ -172,7 +173,7 @@ fn row_lists(
     drawn: bool,
     columns: &[ColumnSpec],
     rows: &[RowValues],
-) -> Result<(), Refusal>
+) -> Result<(), AllocError>
     ensures { Wrote (spec.lists_pieces drawn columns.now rows.now) result writer.old writer.new }
 {
     names(writer, drawn, columns)?;
@@ -187,12 +188,12 @@ fn all_rows(
     drawn: bool,
     columns: &[ColumnSpec],
     rows: &[RowValues],
-) -> Result<(), Refusal>
-    ensures { Wrote (spec.rows_pieces writer.old.quoting drawn columns.now rows.now)
+) -> Result<(), AllocError>
+    ensures { Wrote (spec.rows_pieces writer.old.dialect drawn columns.now rows.now)
         result writer.old writer.new }
 {
     if all_left_out(drawn, columns) {
-        writer.put_words(default_word(writer.quoting()))
+        writer.put_words(default_word(writer.dialect()))
     } else {
         row_lists(writer, drawn, columns, rows)
     }
@@ -200,7 +201,7 @@ fn all_rows(
 
 /// The key's columns behind RETURNING.
 #[tactic(auto, unfolding(sql_text::specs::Written::put_all), using(sql_text::proofs::Steps::steps))]
-fn key_names(writer: &mut Writer, schema: &Schema, table: TableId) -> Result<(), Refusal>
+fn key_names(writer: &mut Writer, schema: &Schema, table: TableId) -> Result<(), AllocError>
     ensures { Wrote (spec.key_names (spec_of schema.now table).name (spec_of schema.now
         table).columns) result writer.old writer.new }
 {
@@ -225,19 +226,19 @@ fn returning(
     schema: &Schema,
     table: TableId,
     drawn: bool,
-) -> Result<(), Refusal>
-    ensures { Wrote (spec.returning_pieces writer.old.quoting drawn (spec_of schema.now table))
+) -> Result<(), AllocError>
+    ensures { Wrote (spec.returning_pieces writer.old.dialect drawn (spec_of schema.now table))
         result writer.old writer.new }
 {
-    match writer.quoting() {
-        Quoting::Postgresql => {
-            if tells_key(Quoting::Postgresql, drawn) {
+    match writer.dialect() {
+        Dialect::Postgresql => {
+            if tells_key(Dialect::Postgresql, drawn) {
                 key_names(writer, schema, table)
             } else {
                 Ok(())
             }
         }
-        Quoting::Sqlite | Quoting::Mysql => Ok(()),
+        Dialect::Sqlite | Dialect::Mysql => Ok(()),
     }
 }
 
@@ -247,8 +248,8 @@ fn insert(
     schema: &Schema,
     table: TableId,
     rows: &[RowValues],
-) -> Result<(), Refusal>
-    ensures { Wrote (spec.insert_rows writer.old.quoting (spec_of schema.now table)
+) -> Result<(), AllocError>
+    ensures { Wrote (spec.insert_rows writer.old.dialect (spec_of schema.now table)
         (spec.leaves_key (spec_of schema.now table) rows.now) rows.now)
         result writer.old writer.new }
 {
@@ -266,7 +267,7 @@ fn key_cell(
     table: &str,
     column: &ColumnSpec,
     value: &Value,
-) -> Result<(), Refusal>
+) -> Result<(), AllocError>
     ensures { Wrote (spec.key_cell table.now column.now value.now) result writer.old writer.new }
 {
     writer.put_shown(table)?;
@@ -283,7 +284,7 @@ fn by_key(
     schema: &Schema,
     table: TableId,
     key: &[Value],
-) -> Result<(), Refusal>
+) -> Result<(), AllocError>
     ensures { Wrote (spec.by_key (spec_of schema.now table) key.now) result writer.old writer.new }
 {
     let name = table_name(schema, table);
@@ -311,7 +312,7 @@ fn cell(
     schema: &Schema,
     table: TableId,
     cell: &(ColumnNo, Value),
-) -> Result<(), Refusal>
+) -> Result<(), AllocError>
     ensures { Wrote (spec.cell_pieces schema.now table cell.now) result writer.old writer.new }
 {
     let name = column_name(schema, table, cell.0);
@@ -326,7 +327,7 @@ fn more_cells(
     schema: &Schema,
     table: TableId,
     cells: &[(ColumnNo, Value)],
-) -> Result<(), Refusal>
+) -> Result<(), AllocError>
     ensures { Wrote (with_leading_separators (codes ", ") (spec.cell_pieces schema.now table) cells.now)
         result writer.old writer.new }
 {
@@ -343,7 +344,7 @@ fn cells_of(
     schema: &Schema,
     table: TableId,
     cells: &[(ColumnNo, Value)],
-) -> Result<(), Refusal>
+) -> Result<(), AllocError>
     ensures { Wrote (with_separators (codes ", ") (spec.cell_pieces schema.now table) cells.now)
         result writer.old writer.new }
 {
@@ -354,10 +355,10 @@ fn cells_of(
     more_cells(writer, schema, table, others)
 }
 
-/// A statement on rows. The only refusal is that memory ran out.
+/// A statement on rows.
 #[tactic(auto, unfolding(crate::specs::Rows::row_pieces), using(sql_text::proofs::Steps::steps))]
-pub fn row(writer: &mut Writer, schema: &Schema, statement: &RowStmt) -> Result<(), Refusal>
-    ensures { Wrote (spec.row_pieces writer.old.quoting schema.now statement.now)
+pub fn row(writer: &mut Writer, schema: &Schema, statement: &RowStmt) -> Result<(), AllocError>
+    ensures { Wrote (spec.row_pieces writer.old.dialect schema.now statement.now)
         result writer.old writer.new }
 {
     match statement {

@@ -6,25 +6,25 @@ use Rattle.base_core.specs.declared.value.Value.{Value}
 use Rattle.schema_core.specs.Catalog.{Catalog}
 use Rattle.expr_types.specs.declared.expr.Origin.{Origin}
 use Rattle.expr_types.specs.declared.select.Joined.{Joined}
-use Rattle.sql_text.specs.declared.names.Quoting.{Quoting}
+use Rattle.base_core.specs.declared.dialect.Dialect.{Dialect}
 use Rattle.sql_text.specs.Written.{words, Written, put_all}
 use Rattle.sql_text.proofs.Behind.{more_next, written_behind}
-use Rattle.sql_text.proofs.Steps.{same_quoting}
+use Rattle.sql_text.proofs.Steps.{same_dialect}
 use Rattle.sql_rows.specs.Rows.{cell_piece}
 use Rattle.sql_statements.specs.Bulks.{cells_pieces}
 use Rattle.sql_statements.specs.Selects.{join_pieces, joins_pieces}
 
 -- one more source, with its condition under the sources up to it
 pub joins_next : (schema : Catalog) (start old new done : Written) (before scope : List Origin) (join : Joined) (rest xs : List Joined) → xs ≡ join ∷ rest → scope ≡ before ++ join.origin ∷ []
-    → (old.quoting ≡ start.quoting) × (put_all old (joins_pieces start.quoting schema before xs) ≡ done)
-    → new ≡ put_all old (join_pieces old.quoting schema scope join)
-    → (new.quoting ≡ start.quoting) × (put_all new (joins_pieces start.quoting schema scope rest) ≡ done)
+    → (old.dialect ≡ start.dialect) × (put_all old (joins_pieces start.dialect schema before xs) ≡ done)
+    → new ≡ put_all old (join_pieces old.dialect schema scope join)
+    → (new.dialect ≡ start.dialect) × (put_all new (joins_pieces start.dialect schema scope rest) ≡ done)
 joins_next schema start old new done before scope join rest xs xs-is scope-is so-far new-is =
-    let after : new.quoting ≡ start.quoting = ap (λ (w : Written). w.quoting) new-is ∙ (same_quoting old (join_pieces old.quoting schema scope join) ∙ so-far.0) in
-    let here : new ≡ put_all old (join_pieces start.quoting schema scope join) = new-is ∙ ap (λ (q : Quoting). put_all old (join_pieces q schema scope join)) so-far.0 in
-    let all-is : joins_pieces start.quoting schema before xs ≡ join_pieces start.quoting schema scope join ++ joins_pieces start.quoting schema scope rest =
-    ap (joins_pieces start.quoting schema before) xs-is ∙ ap (λ (s : List Origin). join_pieces start.quoting schema s join ++ joins_pieces start.quoting schema s rest) (sym scope-is) in
-    (after, more_next (join_pieces start.quoting schema scope join) (joins_pieces start.quoting schema scope rest) (joins_pieces start.quoting schema before xs) old new done all-is so-far.1 here)
+    let after : new.dialect ≡ start.dialect = ap (λ (w : Written). w.dialect) new-is ∙ (same_dialect old (join_pieces old.dialect schema scope join) ∙ so-far.0) in
+    let here : new ≡ put_all old (join_pieces start.dialect schema scope join) = new-is ∙ ap (λ (q : Dialect). put_all old (join_pieces q schema scope join)) so-far.0 in
+    let all-is : joins_pieces start.dialect schema before xs ≡ join_pieces start.dialect schema scope join ++ joins_pieces start.dialect schema scope rest =
+    ap (joins_pieces start.dialect schema before) xs-is ∙ ap (λ (s : List Origin). join_pieces start.dialect schema s join ++ joins_pieces start.dialect schema s rest) (sym scope-is) in
+    (after, more_next (join_pieces start.dialect schema scope join) (joins_pieces start.dialect schema scope rest) (joins_pieces start.dialect schema before xs) old new done all-is so-far.1 here)
 
 -- a value for a column, behind its word
 pub cell_next : (schema : Catalog) (table : TableId) (word : List ℕ) (column : ColumnNo) (v : Value) (columns xs : List ColumnNo) (values vs : List Value) (old mid new done : Written) → xs ≡ column ∷ columns → vs ≡ v ∷ values

@@ -7,7 +7,7 @@ ghost use Rattle.sql_statements.specs.Bulks as spec;
 ghost use Rattle.sql_text.specs.Written.{Wrote, with_leading_separators, with_separators};
 
 use crate::selects::clause;
-use base_core::{ColumnNo, Refusal, TableId, Value};
+use base_core::{ColumnNo, TableId, Value};
 use expr_types::{Bulk, Expr, Origin};
 use schema_core::Schema;
 use sql_expressions::expression;
@@ -30,7 +30,7 @@ fn more_columns(
     schema: &Schema,
     table: TableId,
     columns: &[ColumnNo],
-) -> Result<(), Refusal>
+) -> Result<(), AllocError>
     ensures { Wrote (with_leading_separators (codes ", ") (λ column. column_piece schema.now table column ∷ [])
         columns.now) result writer.old writer.new }
 {
@@ -47,7 +47,7 @@ fn columns_of(
     schema: &Schema,
     table: TableId,
     columns: &[ColumnNo],
-) -> Result<(), Refusal>
+) -> Result<(), AllocError>
     ensures { Wrote (spec.columns_pieces schema.now table columns.now)
         result writer.old writer.new }
 {
@@ -66,7 +66,7 @@ fn cells(
     table: TableId,
     columns: &[ColumnNo],
     values: &[Value],
-) -> Result<(), Refusal>
+) -> Result<(), AllocError>
     ensures { Wrote (spec.cells_pieces schema.now table (codes "(") columns.now values.now)
         result writer.old writer.new }
 {
@@ -91,7 +91,7 @@ fn lists(
     table: TableId,
     columns: &[ColumnNo],
     values: &[Value],
-) -> Result<(), Refusal>
+) -> Result<(), AllocError>
     ensures { Wrote (spec.lists_pieces schema.now table columns.now values.now)
         result writer.old writer.new }
 {
@@ -110,12 +110,12 @@ fn values_of(
     table: TableId,
     columns: &[ColumnNo],
     values: &[Value],
-) -> Result<(), Refusal>
-    ensures { Wrote (spec.values_pieces writer.old.quoting schema.now table columns.now values.now)
+) -> Result<(), AllocError>
+    ensures { Wrote (spec.values_pieces writer.old.dialect schema.now table columns.now values.now)
         result writer.old writer.new }
 {
     match columns {
-        [] => writer.put_words(default_word(writer.quoting())),
+        [] => writer.put_words(default_word(writer.dialect())),
         [_, ..] => lists(writer, schema, table, columns, values),
     }
 }
@@ -127,8 +127,8 @@ fn set(
     schema: &Schema,
     table: TableId,
     set: &(ColumnNo, Option<Expr>),
-) -> Result<(), Refusal>
-    ensures { Wrote (spec.set_pieces writer.old.quoting schema.now table set.now)
+) -> Result<(), AllocError>
+    ensures { Wrote (spec.set_pieces writer.old.dialect schema.now table set.now)
         result writer.old writer.new }
 {
     let name = column_name(schema, table, set.0);
@@ -149,9 +149,9 @@ fn more_sets(
     schema: &Schema,
     table: TableId,
     sets: &[(ColumnNo, Option<Expr>)],
-) -> Result<(), Refusal>
+) -> Result<(), AllocError>
     ensures { Wrote (with_leading_separators (codes ", ")
-        (spec.set_pieces writer.old.quoting schema.now table) sets.now)
+        (spec.set_pieces writer.old.dialect schema.now table) sets.now)
         result writer.old writer.new }
 {
     for next in sets {
@@ -167,9 +167,9 @@ fn sets_of(
     schema: &Schema,
     table: TableId,
     sets: &[(ColumnNo, Option<Expr>)],
-) -> Result<(), Refusal>
+) -> Result<(), AllocError>
     ensures { Wrote (with_separators (codes ", ")
-        (spec.set_pieces writer.old.quoting schema.now table) sets.now)
+        (spec.set_pieces writer.old.dialect schema.now table) sets.now)
         result writer.old writer.new }
 {
     let Some((first, others)) = sets.split_first() else {
@@ -186,8 +186,8 @@ fn filter(
     schema: &Schema,
     table: TableId,
     condition: &Option<Expr>,
-) -> Result<(), Refusal>
-    ensures { Wrote (spec.filter_pieces writer.old.quoting schema.now table condition.now)
+) -> Result<(), AllocError>
+    ensures { Wrote (spec.filter_pieces writer.old.dialect schema.now table condition.now)
         result writer.old writer.new }
 {
     let scope = alone(writer.alloc(), table)?;
@@ -201,8 +201,8 @@ fn update(
     table: TableId,
     sets: &[(ColumnNo, Option<Expr>)],
     condition: &Option<Expr>,
-) -> Result<(), Refusal>
-    ensures { Wrote (spec.update_pieces writer.old.quoting schema.now table sets.now condition.now)
+) -> Result<(), AllocError>
+    ensures { Wrote (spec.update_pieces writer.old.dialect schema.now table sets.now condition.now)
         result writer.old writer.new }
 {
     writer.put_words("UPDATE ")?;
@@ -219,8 +219,8 @@ fn insert(
     table: TableId,
     columns: &[ColumnNo],
     values: &[Value],
-) -> Result<(), Refusal>
-    ensures { Wrote (spec.insert_pieces writer.old.quoting schema.now table columns.now values.now)
+) -> Result<(), AllocError>
+    ensures { Wrote (spec.insert_pieces writer.old.dialect schema.now table columns.now values.now)
         result writer.old writer.new }
 {
     writer.put_words("INSERT INTO ")?;
@@ -234,8 +234,8 @@ fn delete(
     schema: &Schema,
     table: TableId,
     condition: &Option<Expr>,
-) -> Result<(), Refusal>
-    ensures { Wrote (spec.delete_pieces writer.old.quoting schema.now table condition.now)
+) -> Result<(), AllocError>
+    ensures { Wrote (spec.delete_pieces writer.old.dialect schema.now table condition.now)
         result writer.old writer.new }
 {
     writer.put_words("DELETE FROM ")?;
@@ -245,8 +245,8 @@ fn delete(
 
 /// A bulk statement.
 #[tactic(auto, unfolding(crate::specs::Bulks::bulk_pieces))]
-pub(crate) fn bulk(writer: &mut Writer, schema: &Schema, statement: &Bulk) -> Result<(), Refusal>
-    ensures { Wrote (spec.bulk_pieces writer.old.quoting schema.now statement.now)
+pub(crate) fn bulk(writer: &mut Writer, schema: &Schema, statement: &Bulk) -> Result<(), AllocError>
+    ensures { Wrote (spec.bulk_pieces writer.old.dialect schema.now statement.now)
         result writer.old writer.new }
 {
     match statement {

@@ -7,7 +7,7 @@ ghost use Rattle.sql_statements.specs.Selects as spec;
 ghost use Rattle.sql_text.specs.Words.{select_word, join_word};
 ghost use Rattle.sql_text.specs.Written.{Wrote, with_leading_separators, with_separators};
 
-use base_core::{Copied, Name, Refusal};
+use base_core::{Copied, Name};
 use expr_types::{Expr, Joined, Origin, Select};
 use schema_core::Schema;
 use sql_expressions::{expression, param, parts, source};
@@ -22,8 +22,8 @@ fn item(
     schema: &Schema,
     scope: &[Origin],
     item: &(Expr, Option<Name>),
-) -> Result<(), Refusal>
-    ensures { Wrote (spec.item_pieces writer.old.quoting schema.now scope.now item.now)
+) -> Result<(), AllocError>
+    ensures { Wrote (spec.item_pieces writer.old.dialect schema.now scope.now item.now)
         result writer.old writer.new }
 {
     expression(writer, schema, scope, param(), &item.0)?;
@@ -42,8 +42,8 @@ fn more_items(
     schema: &Schema,
     scope: &[Origin],
     items: &[(Expr, Option<Name>)],
-) -> Result<(), Refusal>
-    ensures { Wrote (with_leading_separators (codes ", ") (spec.item_pieces writer.old.quoting schema.now
+) -> Result<(), AllocError>
+    ensures { Wrote (with_leading_separators (codes ", ") (spec.item_pieces writer.old.dialect schema.now
         scope.now) items.now) result writer.old writer.new }
 {
     for next in items {
@@ -59,8 +59,8 @@ fn items_of(
     schema: &Schema,
     scope: &[Origin],
     items: &[(Expr, Option<Name>)],
-) -> Result<(), Refusal>
-    ensures { Wrote (with_separators (codes ", ") (spec.item_pieces writer.old.quoting schema.now scope.now)
+) -> Result<(), AllocError>
+    ensures { Wrote (with_separators (codes ", ") (spec.item_pieces writer.old.dialect schema.now scope.now)
         items.now) result writer.old writer.new }
 {
     let Some((first, others)) = items.split_first() else {
@@ -86,9 +86,9 @@ fn head(
     schema: &Schema,
     scope: &[Origin],
     select: &Select,
-) -> Result<(), Refusal>
+) -> Result<(), AllocError>
     requires { scope.now ≡ sources_of select.now }
-    ensures { Wrote (spec.head_pieces writer.old.quoting schema.now select.now)
+    ensures { Wrote (spec.head_pieces writer.old.dialect schema.now select.now)
         result writer.old writer.new }
 {
     writer.put_words(select_word(select.distinct))?;
@@ -107,8 +107,8 @@ fn join(
     schema: &Schema,
     scope: &[Origin],
     join: &Joined,
-) -> Result<(), Refusal>
-    ensures { Wrote (spec.join_pieces writer.old.quoting schema.now scope.now join.now)
+) -> Result<(), AllocError>
+    ensures { Wrote (spec.join_pieces writer.old.dialect schema.now scope.now join.now)
         result writer.old writer.new }
 {
     writer.put_words(join_word(join.left))?;
@@ -152,8 +152,8 @@ fn joins(
     schema: &Schema,
     first: &Origin,
     joins: &[Joined],
-) -> Result<(), Refusal>
-    ensures { Wrote (spec.joins_pieces writer.old.quoting schema.now (first.now ∷ []) joins.now)
+) -> Result<(), AllocError>
+    ensures { Wrote (spec.joins_pieces writer.old.dialect schema.now (first.now ∷ []) joins.now)
         result writer.old writer.new }
 {
     let mut scope = begun(writer.alloc(), first)?;
@@ -166,8 +166,8 @@ fn joins(
 
 /// The sources.
 #[tactic(auto, using(sql_text::proofs::Steps::steps))]
-fn from(writer: &mut Writer, schema: &Schema, select: &Select) -> Result<(), Refusal>
-    ensures { Wrote (spec.from_pieces writer.old.quoting schema.now select.now)
+fn from(writer: &mut Writer, schema: &Schema, select: &Select) -> Result<(), AllocError>
+    ensures { Wrote (spec.from_pieces writer.old.dialect schema.now select.now)
         result writer.old writer.new }
 {
     writer.put_words(" FROM ")?;
@@ -183,8 +183,8 @@ pub(crate) fn clause(
     scope: &[Origin],
     word: &str,
     condition: &Option<Expr>,
-) -> Result<(), Refusal>
-    ensures { Wrote (spec.clause_pieces writer.old.quoting schema.now scope.now word.now
+) -> Result<(), AllocError>
+    ensures { Wrote (spec.clause_pieces writer.old.dialect schema.now scope.now word.now
         condition.now) result writer.old writer.new }
 {
     match condition {
@@ -201,8 +201,8 @@ fn group_by(
     schema: &Schema,
     scope: &[Origin],
     groups: &[Expr],
-) -> Result<(), Refusal>
-    ensures { Wrote (spec.group_by_pieces writer.old.quoting schema.now scope.now groups.now)
+) -> Result<(), AllocError>
+    ensures { Wrote (spec.group_by_pieces writer.old.dialect schema.now scope.now groups.now)
         result writer.old writer.new }
 {
     writer.put_words(" GROUP BY ")?;
@@ -215,8 +215,8 @@ fn groups(
     schema: &Schema,
     scope: &[Origin],
     groups: &[Expr],
-) -> Result<(), Refusal>
-    ensures { Wrote (spec.groups_pieces writer.old.quoting schema.now scope.now groups.now)
+) -> Result<(), AllocError>
+    ensures { Wrote (spec.groups_pieces writer.old.dialect schema.now scope.now groups.now)
         result writer.old writer.new }
 {
     match groups {
@@ -232,8 +232,8 @@ fn key(
     schema: &Schema,
     scope: &[Origin],
     key: &(Expr, bool),
-) -> Result<(), Refusal>
-    ensures { Wrote (spec.key_pieces writer.old.quoting schema.now scope.now key.now)
+) -> Result<(), AllocError>
+    ensures { Wrote (spec.key_pieces writer.old.dialect schema.now scope.now key.now)
         result writer.old writer.new }
 {
     expression(writer, schema, scope, param(), &key.0)?;
@@ -249,8 +249,8 @@ fn more_keys(
     schema: &Schema,
     scope: &[Origin],
     keys: &[(Expr, bool)],
-) -> Result<(), Refusal>
-    ensures { Wrote (with_leading_separators (codes ", ") (spec.key_pieces writer.old.quoting schema.now
+) -> Result<(), AllocError>
+    ensures { Wrote (with_leading_separators (codes ", ") (spec.key_pieces writer.old.dialect schema.now
         scope.now) keys.now) result writer.old writer.new }
 {
     for next in keys {
@@ -266,8 +266,8 @@ fn keys_of(
     schema: &Schema,
     scope: &[Origin],
     keys: &[(Expr, bool)],
-) -> Result<(), Refusal>
-    ensures { Wrote (with_separators (codes ", ") (spec.key_pieces writer.old.quoting schema.now scope.now)
+) -> Result<(), AllocError>
+    ensures { Wrote (with_separators (codes ", ") (spec.key_pieces writer.old.dialect schema.now scope.now)
         keys.now) result writer.old writer.new }
 {
     let Some((first, others)) = keys.split_first() else {
@@ -282,8 +282,8 @@ fn order_by(
     schema: &Schema,
     scope: &[Origin],
     keys: &[(Expr, bool)],
-) -> Result<(), Refusal>
-    ensures { Wrote (spec.order_by_pieces writer.old.quoting schema.now scope.now keys.now)
+) -> Result<(), AllocError>
+    ensures { Wrote (spec.order_by_pieces writer.old.dialect schema.now scope.now keys.now)
         result writer.old writer.new }
 {
     writer.put_words(" ORDER BY ")?;
@@ -296,8 +296,8 @@ fn order(
     schema: &Schema,
     scope: &[Origin],
     keys: &[(Expr, bool)],
-) -> Result<(), Refusal>
-    ensures { Wrote (spec.order_pieces writer.old.quoting schema.now scope.now keys.now)
+) -> Result<(), AllocError>
+    ensures { Wrote (spec.order_pieces writer.old.dialect schema.now scope.now keys.now)
         result writer.old writer.new }
 {
     match keys {
@@ -320,10 +320,10 @@ fn tail(
     schema: &Schema,
     scope: &[Origin],
     select: &Select,
-) -> Result<(), Refusal>
+) -> Result<(), AllocError>
     requires limit { IsCut select.now.limit }
     requires offset { IsCut select.now.offset }
-    ensures { Wrote (spec.tail_pieces writer.old.quoting schema.now scope.now select.now)
+    ensures { Wrote (spec.tail_pieces writer.old.dialect schema.now scope.now select.now)
         result writer.old writer.new }
 {
     clause(writer, schema, scope, " WHERE ", &select.filter)?;
@@ -335,10 +335,14 @@ fn tail(
 
 /// A select.
 #[tactic(auto, unfolding(crate::specs::Selects::select_pieces), using(sql_text::proofs::Steps::steps))]
-pub(crate) fn select(writer: &mut Writer, schema: &Schema, select: &Select) -> Result<(), Refusal>
+pub(crate) fn select(
+    writer: &mut Writer,
+    schema: &Schema,
+    select: &Select,
+) -> Result<(), AllocError>
     requires limit { IsCut select.now.limit }
     requires offset { IsCut select.now.offset }
-    ensures { Wrote (spec.select_pieces writer.old.quoting schema.now select.now)
+    ensures { Wrote (spec.select_pieces writer.old.dialect schema.now select.now)
         result writer.old writer.new }
 {
     let scope = sources_of(writer.alloc(), select)?;

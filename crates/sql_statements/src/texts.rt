@@ -1,23 +1,22 @@
 //! The texts of statements.
 
-ghost use Rattle.std.specs.Prelude.{Ok, IsTrue, ◌↔◌};
-ghost use Rattle.base_core.specs.Answers.{Gives};
+ghost use Rattle.std.specs.Prelude.{◌≡◌, Ok, IsTrue, ◌↔◌, IfOk};
 ghost use Rattle.sql_statements.specs.Texts as spec;
 ghost use Rattle.sql_text.specs.Written.{Wrote};
 
 use crate::bulks::bulk;
 use crate::selects::{self, select};
-use base_core::Refusal;
+use base_core::Dialect;
 use expr_types::Statement;
 use schema_core::Schema;
 use sql_rows::row;
-use sql_text::{Compiled, Quoting, Writer};
-use std::alloc::Global;
+use sql_text::{Compiled, Writer};
+use std::alloc::{AllocError, Global};
 
 #[tactic(auto, using(sql_text::proofs::Steps::steps))]
-fn write(writer: &mut Writer, schema: &Schema, statement: &Statement) -> Result<(), Refusal>
+fn write(writer: &mut Writer, schema: &Schema, statement: &Statement) -> Result<(), AllocError>
     requires { spec.HasCuts statement.now }
-    ensures { Wrote (spec.statement_pieces writer.old.quoting schema.now statement.now)
+    ensures { Wrote (spec.statement_pieces writer.old.dialect schema.now statement.now)
         result writer.old writer.new }
 {
     match statement {
@@ -37,19 +36,18 @@ pub fn has_cuts(statement: &Statement) -> bool
     }
 }
 
-/// A statement's text in a dialect, with the names of its marks and their values. The only refusal is that memory ran
-/// out.
+/// A statement's text in a dialect, with the names of its marks and their values.
 #[tactic(auto, unfolding(crate::specs::Texts::text_of))]
 pub fn compiled(
     alloc: Global,
-    quoting: Quoting,
+    dialect: Dialect,
     schema: &Schema,
     statement: &Statement,
-) -> Result<Compiled, Refusal>
+) -> Result<Compiled, AllocError>
     requires { spec.HasCuts statement.now }
-    ensures { Gives (λ it. it) result (Ok (spec.text_of quoting schema.now statement.now)) }
+    ensures { IfOk result (λ it. it ≡ spec.text_of dialect schema.now statement.now) }
 {
-    let mut writer = Writer::new(alloc, quoting);
+    let mut writer = Writer::new(alloc, dialect);
     write(&mut writer, schema, statement)?;
     Ok(writer.finish())
 }

@@ -11,8 +11,8 @@ use Rattle.schema_core.specs.declared.table.ColumnSpec.{ColumnSpec}
 use Rattle.schema_core.specs.declared.table.ForeignSpec.{ForeignSpec}
 use Rattle.schema_core.specs.declared.table.TableSpec.{TableSpec}
 use Rattle.schema_core.specs.Catalog.{Catalog, spec_of, target_of, foreign_of, is_required, has_generated_key}
-use Rattle.sql_text.specs.declared.names.Quoting.{Quoting}
-use Rattle.sql_text.specs.declared.names.Quoting.TheVariants.{Sqlite, Postgresql, Mysql}
+use Rattle.base_core.specs.declared.dialect.Dialect.{Dialect}
+use Rattle.base_core.specs.declared.dialect.Dialect.TheVariants.{Sqlite, Postgresql, Mysql}
 use Rattle.sql_text.specs.Written.{Piece, words, name, with_separators, nothing_written, put_all}
 
 -- ---- columns
@@ -21,24 +21,24 @@ abbrev pub varchar_word : Option ℕ → List ℕ
 varchar_word None = codes "VARCHAR"
 varchar_word (Some most) = codes "VARCHAR(" ++ (decimal most ++ codes ")")
 
-abbrev pub boolean_word : Quoting → List ℕ
+abbrev pub boolean_word : Dialect → List ℕ
 boolean_word Sqlite = codes "BOOLEAN"
 boolean_word Postgresql = codes "BOOLEAN"
 boolean_word Mysql = codes "BOOL"
 
-abbrev pub bytes_word : Quoting → List ℕ
+abbrev pub bytes_word : Dialect → List ℕ
 bytes_word Sqlite = codes "BLOB"
 bytes_word Postgresql = codes "BYTEA"
 bytes_word Mysql = codes "BLOB"
 
-abbrev pub type_word : Quoting → ColumnKind → List ℕ
-type_word quoting kind.Integer = codes "INTEGER"
-type_word quoting (kind.Varchar most) = varchar_word most
-type_word quoting kind.Text = codes "TEXT"
-type_word quoting kind.Boolean = boolean_word quoting
-type_word quoting kind.Bytes = bytes_word quoting
+abbrev pub type_word : Dialect → ColumnKind → List ℕ
+type_word dialect kind.Integer = codes "INTEGER"
+type_word dialect (kind.Varchar most) = varchar_word most
+type_word dialect kind.Text = codes "TEXT"
+type_word dialect kind.Boolean = boolean_word dialect
+type_word dialect kind.Bytes = bytes_word dialect
 
-abbrev pub generated_word : Quoting → List ℕ
+abbrev pub generated_word : Dialect → List ℕ
 generated_word Sqlite = codes "INTEGER NOT NULL"
 generated_word Postgresql = codes "SERIAL NOT NULL"
 generated_word Mysql = codes "INTEGER NOT NULL AUTO_INCREMENT"
@@ -48,12 +48,12 @@ null_pieces false = []
 null_pieces true = words (codes " NOT NULL") ∷ []
 
 -- a column's type, where generated says whether the table's key is generated
-abbrev pub type_pieces : Quoting → Bool → ColumnSpec → List Piece
-type_pieces quoting generated column =
-    if generated && column.key then words (generated_word quoting) ∷ [] else words (type_word quoting column.kind) ∷ null_pieces (is_required column)
+abbrev pub type_pieces : Dialect → Bool → ColumnSpec → List Piece
+type_pieces dialect generated column =
+    if generated && column.key then words (generated_word dialect) ∷ [] else words (type_word dialect column.kind) ∷ null_pieces (is_required column)
 
-abbrev pub column_pieces : Quoting → Bool → ColumnSpec → List Piece
-column_pieces quoting generated column = name column.name ∷ words (codes " ") ∷ type_pieces quoting generated column
+abbrev pub column_pieces : Dialect → Bool → ColumnSpec → List Piece
+column_pieces dialect generated column = name column.name ∷ words (codes " ") ∷ type_pieces dialect generated column
 
 -- ---- constraints
 
@@ -100,17 +100,17 @@ abbrev pub constraint_pieces : Catalog → TableSpec → List ℕ → List Piece
 constraint_pieces schema spec later =
     key_names (codes ", PRIMARY KEY (") spec.columns ++ words (codes ")") ∷ uniques_pieces spec.uniques ++ foreigns_pieces schema later 0 spec.foreigns
 
-abbrev pub create_pieces : Quoting → Catalog → TableSpec → List ℕ → List Piece
-create_pieces quoting schema spec later =
-    words (codes "CREATE TABLE ") ∷ name spec.name ∷ words (codes " (") ∷ with_separators (codes ", ") (column_pieces quoting (has_generated_key spec)) spec.columns
+abbrev pub create_pieces : Dialect → Catalog → TableSpec → List ℕ → List Piece
+create_pieces dialect schema spec later =
+    words (codes "CREATE TABLE ") ∷ name spec.name ∷ words (codes " (") ∷ with_separators (codes ", ") (column_pieces dialect (has_generated_key spec)) spec.columns
     ++ constraint_pieces schema spec later ++ words (codes ")") ∷ []
 
 -- a text without values
-abbrev pub text_alone : Quoting → List Piece → List ℕ
-text_alone quoting pieces = (put_all (nothing_written quoting) pieces).text
+abbrev pub text_alone : Dialect → List Piece → List ℕ
+text_alone dialect pieces = (put_all (nothing_written dialect) pieces).text
 
-abbrev pub create_text : Quoting → Catalog → TableSpec → List ℕ → List ℕ
-create_text quoting schema spec later = text_alone quoting (create_pieces quoting schema spec later)
+abbrev pub create_text : Dialect → Catalog → TableSpec → List ℕ → List ℕ
+create_text dialect schema spec later = text_alone dialect (create_pieces dialect schema spec later)
 
 abbrev pub is_unsized : ColumnKind → Bool
 is_unsized (kind.Varchar None) = true
@@ -122,28 +122,28 @@ first_unsized place [] = None
 first_unsized place (column ∷ columns) = if is_unsized column.kind then Some (record { 0 = place }) else first_unsized (place + 1) columns
 
 -- MySQL has no varchar without a length
-abbrev pub unsized_in : Quoting → List ColumnSpec → Option ColumnNo
+abbrev pub unsized_in : Dialect → List ColumnSpec → Option ColumnNo
 unsized_in Sqlite columns = None
 unsized_in Postgresql columns = None
 unsized_in Mysql columns = first_unsized 0 columns
 
-abbrev pub create_text_or_refusal : Quoting → Catalog → TableId → List ℕ → Option ColumnNo → Result (List ℕ) Refusal
-create_text_or_refusal quoting schema table later None = Ok (create_text quoting schema (spec_of schema table) later)
-create_text_or_refusal quoting schema table later (Some column) = Err (CompileError table column)
+abbrev pub create_text_or_refusal : Dialect → Catalog → TableId → List ℕ → Option ColumnNo → Result (List ℕ) Refusal
+create_text_or_refusal dialect schema table later None = Ok (create_text dialect schema (spec_of schema table) later)
+create_text_or_refusal dialect schema table later (Some column) = Err (CompileError table column)
 
 -- CREATE TABLE without the foreign keys of these numbers, or the first column that has no type
-unfoldable pub ddl : Quoting → Catalog → TableId → List ℕ → Result (List ℕ) Refusal
-ddl quoting schema table later = create_text_or_refusal quoting schema table later (unsized_in quoting (spec_of schema table).columns)
+unfoldable pub ddl : Dialect → Catalog → TableId → List ℕ → Result (List ℕ) Refusal
+ddl dialect schema table later = create_text_or_refusal dialect schema table later (unsized_in dialect (spec_of schema table).columns)
 
 abbrev pub alter_pieces : Catalog → TableSpec → ForeignSpec → List Piece
 alter_pieces schema spec foreign = words (codes "ALTER TABLE ") ∷ name spec.name ∷ words (codes " ADD ") ∷ foreign_pieces schema foreign
 
 -- the foreign key of a number, added to its table
-unfoldable pub alter : Quoting → Catalog → TableId → ℕ → List ℕ
-alter quoting schema table number = text_alone quoting (alter_pieces schema (spec_of schema table) (foreign_of (spec_of schema table) number))
+unfoldable pub alter : Dialect → Catalog → TableId → ℕ → List ℕ
+alter dialect schema table number = text_alone dialect (alter_pieces schema (spec_of schema table) (foreign_of (spec_of schema table) number))
 
 abbrev pub drop_pieces : Catalog → TableId → List Piece
 drop_pieces schema table = words (codes "DROP TABLE ") ∷ name (spec_of schema table).name ∷ []
 
-unfoldable pub drop_text : Quoting → Catalog → TableId → List ℕ
-drop_text quoting schema table = text_alone quoting (drop_pieces schema table)
+unfoldable pub drop_text : Dialect → Catalog → TableId → List ℕ
+drop_text dialect schema table = text_alone dialect (drop_pieces schema table)

@@ -1,17 +1,16 @@
 //! The texts that make tables and drop them.
 
-ghost use Rattle.std.specs.Prelude.{◌≡◌, ◌<◌, ◌∷◌, [], Ok, IfOk, IfErr, codes, length, string_bytes};
+ghost use Rattle.std.specs.Prelude.{◌≡◌, ◌<◌, ◌∷◌, [], Ok, IfOk, codes, length, string_bytes};
 ghost use Rattle.base_core.specs.Answers.{Gives};
-ghost use Rattle.base_core.specs.declared.refusal.Refusal.TheVariants.{Memory};
 ghost use Rattle.schema_core.specs.Catalog.{IsTable, spec_of};
 ghost use Rattle.sql_tables.specs.Ddl as spec;
 ghost use Rattle.sql_text.specs.Written.{Wrote, with_leading_separators, with_separators, words, name};
 
-use base_core::{ColumnNo, ListOf, Name, Refusal, TableId, Text};
+use base_core::{ColumnNo, Dialect, ListOf, Name, Refusal, TableId, Text};
 use schema_core::{
     ColumnKind, ColumnSpec, ForeignSpec, Schema, TableSpec, has_generated_key, is_required,
 };
-use sql_text::{Compiled, Quoting, Writer, columns_of, comes_later, table_name};
+use sql_text::{Writer, columns_of, comes_later, table_name};
 use std::alloc::{AllocError, Global};
 
 fn varchar_word(alloc: Global, most: Option<u32>) -> Result<String, AllocError>
@@ -23,36 +22,36 @@ fn varchar_word(alloc: Global, most: Option<u32>) -> Result<String, AllocError>
     }
 }
 
-fn boolean_word(quoting: Quoting) -> &'static str
-    ensures { result.now ≡ spec.boolean_word quoting }
+fn boolean_word(dialect: Dialect) -> &'static str
+    ensures { result.now ≡ spec.boolean_word dialect }
 {
-    match quoting {
-        Quoting::Sqlite | Quoting::Postgresql => "BOOLEAN",
-        Quoting::Mysql => "BOOL",
+    match dialect {
+        Dialect::Sqlite | Dialect::Postgresql => "BOOLEAN",
+        Dialect::Mysql => "BOOL",
     }
 }
 
-fn bytes_word(quoting: Quoting) -> &'static str
-    ensures { result.now ≡ spec.bytes_word quoting }
+fn bytes_word(dialect: Dialect) -> &'static str
+    ensures { result.now ≡ spec.bytes_word dialect }
 {
-    match quoting {
-        Quoting::Sqlite | Quoting::Mysql => "BLOB",
-        Quoting::Postgresql => "BYTEA",
+    match dialect {
+        Dialect::Sqlite | Dialect::Mysql => "BLOB",
+        Dialect::Postgresql => "BYTEA",
     }
 }
 
-fn generated_word(quoting: Quoting) -> &'static str
-    ensures { result.now ≡ spec.generated_word quoting }
+fn generated_word(dialect: Dialect) -> &'static str
+    ensures { result.now ≡ spec.generated_word dialect }
 {
-    match quoting {
-        Quoting::Sqlite => "INTEGER NOT NULL",
-        Quoting::Postgresql => "SERIAL NOT NULL",
-        Quoting::Mysql => "INTEGER NOT NULL AUTO_INCREMENT",
+    match dialect {
+        Dialect::Sqlite => "INTEGER NOT NULL",
+        Dialect::Postgresql => "SERIAL NOT NULL",
+        Dialect::Mysql => "INTEGER NOT NULL AUTO_INCREMENT",
     }
 }
 
-fn type_of(writer: &mut Writer, kind: ColumnKind) -> Result<(), Refusal>
-    ensures { Wrote (words (spec.type_word writer.old.quoting kind) ∷ [])
+fn type_of(writer: &mut Writer, kind: ColumnKind) -> Result<(), AllocError>
+    ensures { Wrote (words (spec.type_word writer.old.dialect kind) ∷ [])
         result writer.old writer.new }
 {
     match kind {
@@ -62,20 +61,20 @@ fn type_of(writer: &mut Writer, kind: ColumnKind) -> Result<(), Refusal>
             writer.put_words(word.as_str())
         }
         ColumnKind::Text => writer.put_words("TEXT"),
-        ColumnKind::Boolean => writer.put_words(boolean_word(writer.quoting())),
-        ColumnKind::Bytes => writer.put_words(bytes_word(writer.quoting())),
+        ColumnKind::Boolean => writer.put_words(boolean_word(writer.dialect())),
+        ColumnKind::Bytes => writer.put_words(bytes_word(writer.dialect())),
     }
 }
 
 #[tactic(auto, using(sql_text::proofs::Steps::steps))]
-fn column(writer: &mut Writer, generated: bool, column: &ColumnSpec) -> Result<(), Refusal>
-    ensures { Wrote (spec.column_pieces writer.old.quoting generated column.now)
+fn column(writer: &mut Writer, generated: bool, column: &ColumnSpec) -> Result<(), AllocError>
+    ensures { Wrote (spec.column_pieces writer.old.dialect generated column.now)
         result writer.old writer.new }
 {
     writer.put_name(&column.name)?;
     writer.put_words(" ")?;
     if generated && column.key {
-        return writer.put_words(generated_word(writer.quoting()));
+        return writer.put_words(generated_word(writer.dialect()));
     }
     type_of(writer, column.kind)?;
     if is_required(column) {
@@ -85,8 +84,12 @@ fn column(writer: &mut Writer, generated: bool, column: &ColumnSpec) -> Result<(
 }
 
 #[tactic(auto, unfolding(sql_text::specs::Written::put_all), using(sql_text::proofs::Steps::steps))]
-fn more_columns(writer: &mut Writer, generated: bool, columns: &[ColumnSpec]) -> Result<(), Refusal>
-    ensures { Wrote (with_leading_separators (codes ", ") (spec.column_pieces writer.old.quoting generated) columns.now)
+fn more_columns(
+    writer: &mut Writer,
+    generated: bool,
+    columns: &[ColumnSpec],
+) -> Result<(), AllocError>
+    ensures { Wrote (with_leading_separators (codes ", ") (spec.column_pieces writer.old.dialect generated) columns.now)
         result writer.old writer.new }
 {
     for next in columns {
@@ -97,9 +100,9 @@ fn more_columns(writer: &mut Writer, generated: bool, columns: &[ColumnSpec]) ->
 }
 
 #[tactic(auto, using(sql_text::proofs::Steps::steps))]
-fn columns(writer: &mut Writer, generated: bool, columns: &[ColumnSpec]) -> Result<(), Refusal>
+fn columns(writer: &mut Writer, generated: bool, columns: &[ColumnSpec]) -> Result<(), AllocError>
     ensures { Wrote (with_separators (codes ", ")
-        (spec.column_pieces writer.old.quoting generated) columns.now)
+        (spec.column_pieces writer.old.dialect generated) columns.now)
         result writer.old writer.new }
 {
     let Some((first, others)) = columns.split_first() else {
@@ -110,7 +113,7 @@ fn columns(writer: &mut Writer, generated: bool, columns: &[ColumnSpec]) -> Resu
 }
 
 #[tactic(auto, unfolding(sql_text::specs::Written::put_all), using(sql_text::proofs::Steps::steps))]
-fn more_names(writer: &mut Writer, names: &[Name]) -> Result<(), Refusal>
+fn more_names(writer: &mut Writer, names: &[Name]) -> Result<(), AllocError>
     ensures { Wrote (with_leading_separators (codes ", ") (λ shown. name shown ∷ []) names.now)
         result writer.old writer.new }
 {
@@ -122,7 +125,7 @@ fn more_names(writer: &mut Writer, names: &[Name]) -> Result<(), Refusal>
 }
 
 #[tactic(auto, using(sql_text::proofs::Steps::steps))]
-fn names(writer: &mut Writer, names: &[Name]) -> Result<(), Refusal>
+fn names(writer: &mut Writer, names: &[Name]) -> Result<(), AllocError>
     ensures { Wrote (spec.names_pieces names.now) result writer.old writer.new }
 {
     let Some((first, others)) = names.split_first() else {
@@ -134,7 +137,7 @@ fn names(writer: &mut Writer, names: &[Name]) -> Result<(), Refusal>
 
 /// The names of the key's columns.
 #[tactic(auto, unfolding(sql_text::specs::Written::put_all), using(sql_text::proofs::Steps::steps))]
-fn key_names(writer: &mut Writer, opening: &str, columns: &[ColumnSpec]) -> Result<(), Refusal>
+fn key_names(writer: &mut Writer, opening: &str, columns: &[ColumnSpec]) -> Result<(), AllocError>
     ensures { Wrote (spec.key_names opening.now columns.now) result writer.old writer.new }
 {
     let mut word = opening;
@@ -150,7 +153,7 @@ fn key_names(writer: &mut Writer, opening: &str, columns: &[ColumnSpec]) -> Resu
 }
 
 #[tactic(auto, using(sql_text::proofs::Steps::steps))]
-fn unique(writer: &mut Writer, columns: &[Name]) -> Result<(), Refusal>
+fn unique(writer: &mut Writer, columns: &[Name]) -> Result<(), AllocError>
     ensures { Wrote (spec.unique_pieces columns.now) result writer.old writer.new }
 {
     writer.put_words(", UNIQUE (")?;
@@ -159,7 +162,7 @@ fn unique(writer: &mut Writer, columns: &[Name]) -> Result<(), Refusal>
 }
 
 #[tactic(auto, unfolding(sql_text::specs::Written::put_all), using(sql_text::proofs::Steps::steps))]
-fn uniques(writer: &mut Writer, uniques: &[ListOf<Name>]) -> Result<(), Refusal>
+fn uniques(writer: &mut Writer, uniques: &[ListOf<Name>]) -> Result<(), AllocError>
     ensures { Wrote (spec.uniques_pieces uniques.now) result writer.old writer.new }
 {
     for columns in uniques {
@@ -170,7 +173,7 @@ fn uniques(writer: &mut Writer, uniques: &[ListOf<Name>]) -> Result<(), Refusal>
 
 /// The table that a foreign key refers to, and the columns of its key.
 #[tactic(auto, using(sql_text::proofs::Steps::steps))]
-fn target(writer: &mut Writer, schema: &Schema, target: Option<TableId>) -> Result<(), Refusal>
+fn target(writer: &mut Writer, schema: &Schema, target: Option<TableId>) -> Result<(), AllocError>
     ensures { Wrote (spec.target_pieces schema.now target) result writer.old writer.new }
 {
     match target {
@@ -186,7 +189,7 @@ fn target(writer: &mut Writer, schema: &Schema, target: Option<TableId>) -> Resu
 }
 
 #[tactic(auto, using(sql_text::proofs::Steps::steps))]
-fn reference(writer: &mut Writer, schema: &Schema, it: Option<TableId>) -> Result<(), Refusal>
+fn reference(writer: &mut Writer, schema: &Schema, it: Option<TableId>) -> Result<(), AllocError>
     ensures { Wrote (spec.reference_pieces schema.now it) result writer.old writer.new }
 {
     writer.put_words(") REFERENCES ")?;
@@ -200,7 +203,7 @@ fn foreign_to(
     schema: &Schema,
     columns: &[Name],
     target: Option<TableId>,
-) -> Result<(), Refusal>
+) -> Result<(), AllocError>
     ensures { Wrote (spec.foreign_to schema.now columns.now target) result writer.old writer.new }
 {
     writer.put_words("FOREIGN KEY(")?;
@@ -208,7 +211,7 @@ fn foreign_to(
     reference(writer, schema, target)
 }
 
-fn foreign(writer: &mut Writer, schema: &Schema, foreign: &ForeignSpec) -> Result<(), Refusal>
+fn foreign(writer: &mut Writer, schema: &Schema, foreign: &ForeignSpec) -> Result<(), AllocError>
     ensures { Wrote (spec.foreign_pieces schema.now foreign.now) result writer.old writer.new }
 {
     let target = schema.find(&foreign.target);
@@ -222,7 +225,7 @@ fn foreigns(
     schema: &Schema,
     later: &[u32],
     foreigns: &[ForeignSpec],
-) -> Result<(), Refusal>
+) -> Result<(), AllocError>
     ensures { Wrote (spec.foreigns_pieces schema.now later.now 0 foreigns.now)
         result writer.old writer.new }
 {
@@ -243,7 +246,7 @@ fn constraints(
     schema: &Schema,
     declared: &TableSpec,
     later: &[u32],
-) -> Result<(), Refusal>
+) -> Result<(), AllocError>
     ensures { Wrote (spec.constraint_pieces schema.now declared.now later.now)
         result writer.old writer.new }
 {
@@ -259,8 +262,8 @@ fn create(
     schema: &Schema,
     declared: &TableSpec,
     later: &[u32],
-) -> Result<(), Refusal>
-    ensures { Wrote (spec.create_pieces writer.old.quoting schema.now declared.now later.now)
+) -> Result<(), AllocError>
+    ensures { Wrote (spec.create_pieces writer.old.dialect schema.now declared.now later.now)
         result writer.old writer.new }
 {
     let generated = has_generated_key(declared);
@@ -282,9 +285,8 @@ fn is_unsized(kind: ColumnKind) -> bool
 }
 
 /// The first varchar without a length. A place past 32 bits, which no memory holds, is answered as memory that ran out.
-fn first_unsized(columns: &[ColumnSpec]) -> Result<Option<ColumnNo>, Refusal>
-    ensures found { IfOk result (λ found. found ≡ spec.first_unsized 0 columns.now) }
-    ensures cause { IfErr result (λ e. e ≡ Memory) }
+fn first_unsized(columns: &[ColumnSpec]) -> Result<Option<ColumnNo>, AllocError>
+    ensures { IfOk result (λ found. found ≡ spec.first_unsized 0 columns.now) }
 {
     let mut place: u32 = 0;
     for column in columns {
@@ -293,20 +295,19 @@ fn first_unsized(columns: &[ColumnSpec]) -> Result<Option<ColumnNo>, Refusal>
         }
         place = match place.checked_add(1) {
             Some(next) => next,
-            None => return Err(Refusal::Memory),
+            None => return Err(AllocError),
         };
     }
     Ok(None)
 }
 
 /// The first column that has no type in the dialect.
-fn unsized_in(quoting: Quoting, columns: &[ColumnSpec]) -> Result<Option<ColumnNo>, Refusal>
-    ensures found { IfOk result (λ found. found ≡ spec.unsized_in quoting columns.now) }
-    ensures cause { IfErr result (λ e. e ≡ Memory) }
+fn unsized_in(dialect: Dialect, columns: &[ColumnSpec]) -> Result<Option<ColumnNo>, AllocError>
+    ensures { IfOk result (λ found. found ≡ spec.unsized_in dialect columns.now) }
 {
-    match quoting {
-        Quoting::Sqlite | Quoting::Postgresql => Ok(None),
-        Quoting::Mysql => first_unsized(columns),
+    match dialect {
+        Dialect::Sqlite | Dialect::Postgresql => Ok(None),
+        Dialect::Mysql => first_unsized(columns),
     }
 }
 
@@ -314,27 +315,22 @@ fn unsized_in(quoting: Quoting, columns: &[ColumnSpec]) -> Result<Option<ColumnN
 fn text_of(writer: Writer) -> Text
     ensures { result ≡ writer.text }
 {
-    let Compiled {
-        text,
-        names: _,
-        values: _,
-    } = writer.finish();
-    text
+    writer.finish().into_text()
 }
 
 /// CREATE TABLE where each column has a type.
 #[tactic(auto, using(sql_text::proofs::Behind::text_is))]
 fn created(
     alloc: Global,
-    quoting: Quoting,
+    dialect: Dialect,
     schema: &Schema,
     declared: &TableSpec,
     later: &[u32],
-) -> Result<Text, Refusal>
-    ensures { Gives (λ text. text) result
-        (Ok (spec.create_text quoting schema.now declared.now later.now)) }
+) -> Result<Text, AllocError>
+    ensures { IfOk result
+        (λ text. text ≡ spec.create_text dialect schema.now declared.now later.now) }
 {
-    let mut writer = Writer::new(alloc, quoting);
+    let mut writer = Writer::new(alloc, dialect);
     create(&mut writer, schema, declared, later)?;
     Ok(text_of(writer))
 }
@@ -346,18 +342,21 @@ fn created(
 #[tactic(auto, unfolding(crate::specs::Ddl::ddl))]
 pub fn ddl(
     alloc: Global,
-    quoting: Quoting,
+    dialect: Dialect,
     schema: &Schema,
     table: TableId,
     later: &[u32],
 ) -> Result<Text, Refusal>
     requires { IsTable schema.now table }
-    ensures { Gives (λ text. text) result (spec.ddl quoting schema.now table later.now) }
+    ensures { Gives (λ text. text) result (spec.ddl dialect schema.now table later.now) }
 {
     let declared = schema.spec(table);
-    match unsized_in(quoting, declared.columns.as_slice())? {
+    match unsized_in(dialect, declared.columns.as_slice())? {
         Some(column) => Err(Refusal::CompileError(table, column)),
-        None => created(alloc, quoting, schema, declared, later),
+        None => {
+            let made = created(alloc, dialect, schema, declared, later)?;
+            Ok(made)
+        }
     }
 }
 
@@ -367,7 +366,7 @@ fn add(
     schema: &Schema,
     declared: &TableSpec,
     added: &ForeignSpec,
-) -> Result<(), Refusal>
+) -> Result<(), AllocError>
     ensures { Wrote (spec.alter_pieces schema.now declared.now added.now)
         result writer.old writer.new }
 {
@@ -377,45 +376,45 @@ fn add(
     foreign(writer, schema, added)
 }
 
-/// ALTER TABLE that adds a foreign key. The only refusal is that memory ran out.
+/// ALTER TABLE that adds a foreign key.
 #[tactic(auto, unfolding(crate::specs::Ddl::alter), using(sql_text::proofs::Behind::text_is))]
 pub fn alter(
     alloc: Global,
-    quoting: Quoting,
+    dialect: Dialect,
     schema: &Schema,
     table: TableId,
     number: u32,
-) -> Result<Text, Refusal>
+) -> Result<Text, AllocError>
     requires declared { IsTable schema.now table }
     requires numbered { number < length (spec_of schema.now table).foreigns }
-    ensures { Gives (λ text. text) result (Ok (spec.alter quoting schema.now table number)) }
+    ensures { IfOk result (λ text. text ≡ spec.alter dialect schema.now table number) }
 {
     let declared = schema.spec(table);
     let added = declared.foreigns.at(number as usize);
-    let mut writer = Writer::new(alloc, quoting);
+    let mut writer = Writer::new(alloc, dialect);
     add(&mut writer, schema, declared, added)?;
     Ok(text_of(writer))
 }
 
 #[tactic(auto, using(sql_text::proofs::Steps::steps))]
-fn drop_table(writer: &mut Writer, schema: &Schema, table: TableId) -> Result<(), Refusal>
+fn drop_table(writer: &mut Writer, schema: &Schema, table: TableId) -> Result<(), AllocError>
     ensures { Wrote (spec.drop_pieces schema.now table) result writer.old writer.new }
 {
     writer.put_words("DROP TABLE ")?;
     writer.put_shown(table_name(schema, table))
 }
 
-/// DROP TABLE. The only refusal is that memory ran out.
+/// DROP TABLE.
 #[tactic(auto, unfolding(crate::specs::Ddl::drop_text), using(sql_text::proofs::Behind::text_is))]
 pub fn drop_text(
     alloc: Global,
-    quoting: Quoting,
+    dialect: Dialect,
     schema: &Schema,
     table: TableId,
-) -> Result<Text, Refusal>
-    ensures { Gives (λ text. text) result (Ok (spec.drop_text quoting schema.now table)) }
+) -> Result<Text, AllocError>
+    ensures { IfOk result (λ text. text ≡ spec.drop_text dialect schema.now table) }
 {
-    let mut writer = Writer::new(alloc, quoting);
+    let mut writer = Writer::new(alloc, dialect);
     drop_table(&mut writer, schema, table)?;
     Ok(text_of(writer))
 }

@@ -1,9 +1,9 @@
 -- Names as a dialect writes them, and the names of marks.
-use Rattle.std.specs.Prelude.{ℕ, ◌++◌, Bool, true, false, not, ◌&&◌, ◌||◌, ◌==◌, nat_lt, List, [], ◌∷◌, if◌then◌else◌, codes, decimal}
+use Rattle.std.specs.Prelude.{ℕ, ◌++◌, Bool, false, not, ◌&&◌, ◌||◌, ◌==◌, nat_lt, List, [], ◌∷◌, if◌then◌else◌, codes}
 use Rattle.std.specs.List.{list_any, flat_map}
 use Rattle.std.specs.Str.{bytes_eq}
-use Rattle.sql_text.specs.declared.names.Quoting.{Quoting}
-use Rattle.sql_text.specs.declared.names.Quoting.TheVariants.{Sqlite, Postgresql, Mysql}
+use Rattle.base_core.specs.declared.dialect.Dialect.{Dialect}
+use Rattle.base_core.specs.declared.dialect.Dialect.TheVariants.{Sqlite, Postgresql, Mysql}
 
 -- the words that are quoted where they are names
 unfoldable pub words_to_quote : List (List ℕ)
@@ -46,7 +46,7 @@ unfoldable pub needs_quotes : List ℕ → Bool
 needs_quotes name = not (begins_plain name) || list_any (λ byte. not (is_plain_byte byte)) name || is_reserved name
 
 -- `"`, in MySQL the backquote
-abbrev pub quote_of : Quoting → ℕ
+abbrev pub quote_of : Dialect → ℕ
 quote_of Sqlite = 34
 quote_of Postgresql = 34
 quote_of Mysql = 96
@@ -59,17 +59,17 @@ abbrev pub with_byte_doubled : ℕ → List ℕ → List ℕ
 with_byte_doubled mark text = flat_map (doubled_byte mark) text
 
 -- the text with `%` doubled, where the dialect's marks begin with it
-abbrev pub with_percents : Quoting → List ℕ → List ℕ
+abbrev pub with_percents : Dialect → List ℕ → List ℕ
 with_percents Sqlite text = text
 with_percents Postgresql text = with_byte_doubled 37 text
 with_percents Mysql text = with_byte_doubled 37 text
 
-abbrev pub quoted_name : Quoting → List ℕ → List ℕ
-quoted_name quoting name = quote_of quoting ∷ with_byte_doubled (quote_of quoting) (with_percents quoting name) ++ quote_of quoting ∷ []
+abbrev pub quoted_name : Dialect → List ℕ → List ℕ
+quoted_name dialect name = quote_of dialect ∷ with_byte_doubled (quote_of dialect) (with_percents dialect name) ++ quote_of dialect ∷ []
 
 -- a name as it stands in a text
-unfoldable pub name_text : Quoting → List ℕ → List ℕ
-name_text quoting name = if needs_quotes name then quoted_name quoting name else name
+unfoldable pub name_text : Dialect → List ℕ → List ℕ
+name_text dialect name = if needs_quotes name then quoted_name dialect name else name
 
 -- letters, digits and `_` stand in a base name, and `_` stands for every other byte
 abbrev pub cleaned_byte : ℕ → ℕ

@@ -2,8 +2,8 @@
 use Rattle.std.specs.Prelude.{ℕ, Bool, true, false}
 use Rattle.base_core.specs.declared.value.ArithOp.{ArithOp}
 use Rattle.base_core.specs.declared.value.ArithOp.TheVariants.{Add, Sub, Mul}
-use Rattle.sql_text.specs.declared.names.Quoting.{Quoting}
-use Rattle.sql_text.specs.declared.names.Quoting.TheVariants.{Sqlite, Postgresql, Mysql}
+use Rattle.base_core.specs.declared.dialect.Dialect.{Dialect}
+use Rattle.base_core.specs.declared.dialect.Dialect.TheVariants.{Sqlite, Postgresql, Mysql}
 
 -- the least levels of an operator's operands
 abbrev pub arith_least : ArithOp → ℕ × ℕ
@@ -17,7 +17,7 @@ exists_level false = 8
 exists_level true = 3
 
 -- whether an INSERT tells its key, where that is generated and where it is given
-abbrev pub tells_key : Quoting → Bool → Bool
+abbrev pub tells_key : Dialect → Bool → Bool
 tells_key Sqlite generated = false
 tells_key Postgresql generated = generated
 tells_key Mysql generated = false

@@ -2,11 +2,9 @@
 use Rattle.std.specs.Prelude.{◌≡◌, ℕ, ◌+◌, ◌++◌, List, [], ◌∷◌, map, codes, decimal, Result, Ok, Err}
 use Rattle.std.specs.List.{count_by}
 use Rattle.std.specs.Str.{bytes_eq}
-use Rattle.base_core.specs.declared.refusal.Refusal.{Refusal}
-use Rattle.base_core.specs.declared.refusal.Refusal.TheVariants.{Memory}
 use Rattle.base_core.specs.declared.value.Value.{Value}
-use Rattle.sql_text.specs.declared.names.Quoting.{Quoting}
-use Rattle.sql_text.specs.declared.names.Quoting.TheVariants.{Sqlite, Postgresql, Mysql}
+use Rattle.base_core.specs.declared.dialect.Dialect.{Dialect}
+use Rattle.base_core.specs.declared.dialect.Dialect.TheVariants.{Sqlite, Postgresql, Mysql}
 use Rattle.sql_text.specs.declared.writer.Compiled.{Compiled}
 use Rattle.sql_text.specs.Names.{name_text, cleaned_byte}
 
@@ -18,15 +16,15 @@ pub data Piece : Type 0 where
 
 -- what was written in a dialect
 pub record Written : Type 0 where
-  pub quoting : Quoting
+  pub dialect : Dialect
   pub text : List ℕ
   -- for each mark in the order of the text, its base name, its own name and its value
   pub bases : List (List ℕ)
   pub names : List (List ℕ)
   pub values : List Value
 
-abbrev pub nothing_written : Quoting → Written
-nothing_written quoting = record { quoting = quoting; text = []; bases = []; names = []; values = [] }
+abbrev pub nothing_written : Dialect → Written
+nothing_written dialect = record { dialect = dialect; text = []; bases = []; names = []; values = [] }
 
 -- how often a base name was used
 abbrev pub uses_of : List (List ℕ) → List ℕ → ℕ
@@ -41,7 +39,7 @@ abbrev pub next_name : List (List ℕ) → List ℕ → List ℕ
 next_name bases base = mark_name base (uses_of bases base + 1)
 
 -- a mark of a name as it stands in a text
-abbrev pub mark_text : Quoting → List ℕ → List ℕ
+abbrev pub mark_text : Dialect → List ℕ → List ℕ
 mark_text Sqlite shown = codes "?"
 mark_text Postgresql shown = codes "%(" ++ (shown ++ codes ")s")
 mark_text Mysql shown = codes "%s"
@@ -49,10 +47,10 @@ mark_text Mysql shown = codes "%s"
 -- with a mark and its value at the end
 abbrev pub with_mark : Written → List ℕ → List ℕ → Value → Written
 with_mark w base shown v =
-    record { quoting = w.quoting; text = w.text ++ mark_text w.quoting shown; bases = w.bases ++ base ∷ []; names = w.names ++ shown ∷ []; values = w.values ++ v ∷ [] }
+    record { dialect = w.dialect; text = w.text ++ mark_text w.dialect shown; bases = w.bases ++ base ∷ []; names = w.names ++ shown ∷ []; values = w.values ++ v ∷ [] }
 
 abbrev pub with_text : Written → List ℕ → Written
-with_text w text = record { quoting = w.quoting; text = w.text ++ text; bases = w.bases; names = w.names; values = w.values }
+with_text w text = record { dialect = w.dialect; text = w.text ++ text; bases = w.bases; names = w.names; values = w.values }
 
 abbrev pub put_value : Written → List ℕ → Value → Written
 put_value w base v = with_mark w base (next_name w.bases base) v
@@ -60,7 +58,7 @@ put_value w base v = with_mark w base (next_name w.bases base) v
 -- with one more piece at the end
 unfoldable pub put_piece : Written → Piece → Written
 put_piece w (words text) = with_text w text
-put_piece w (name text) = with_text w (name_text w.quoting text)
+put_piece w (name text) = with_text w (name_text w.dialect text)
 put_piece w (value base v) = put_value w (map cleaned_byte base) v
 
 -- with these pieces at the end
@@ -72,10 +70,10 @@ put_all w (piece ∷ pieces) = put_all (put_piece w piece) pieces
 abbrev pub compiled_statement : Written → Compiled
 compiled_statement w = record { text = w.text; names = w.names; values = w.values }
 
--- a call wrote these pieces at the end; its only refusal is that memory ran out
-abbrev pub Wrote : {X : Type 0} → List Piece → Result X Refusal → Written → Written → Type 0
+-- a call wrote these pieces at the end, unless memory ran out
+abbrev pub Wrote : {X E : Type 0} → List Piece → Result X E → Written → Written → Type 0
 Wrote pieces (Ok x) old new = new ≡ put_all old pieces
-Wrote pieces (Err e) old new = e ≡ Memory
+Wrote pieces (Err e) old new = Unit {0}
 
 -- each item's pieces with a separator before them
 abbrev pub with_leading_separators : {A : Type 0} → List ℕ → (A → List Piece) → List A → List Piece

@@ -1,11 +1,10 @@
 //! How often each base name was used.
 
-ghost use Rattle.std.specs.Prelude.{◌≡◌, ◌+◌, ◌++◌, ◌∷◌, [], IfOk, IfErr, OnOk, OnErr, string_bytes};
-ghost use Rattle.base_core.specs.declared.refusal.Refusal.TheVariants.{Memory};
+ghost use Rattle.std.specs.Prelude.{◌≡◌, ◌+◌, ◌++◌, ◌∷◌, [], IfOk, OnOk, OnErr, string_bytes};
 ghost use Rattle.sql_text.specs.Written.{uses_of};
 
-use base_core::{Name, Refusal};
-use std::alloc::Global;
+use base_core::Name;
+use std::alloc::{AllocError, Global};
 use std::collections::BTreeMap;
 use std::marker::Model;
 
@@ -49,22 +48,20 @@ impl Bases {
 
     /// The number of the next mark under a base name. A number past 64 bits, which no memory holds, is answered as
     /// memory that ran out.
-    pub fn next(&self, base: &str) -> Result<u64, Refusal>
-        ensures ok { IfOk result (λ number. number ≡ uses_of self.now base.now + 1) }
-        ensures cause { IfErr result (λ e. e ≡ Memory) }
+    pub fn next(&self, base: &str) -> Result<u64, AllocError>
+        ensures { IfOk result (λ number. number ≡ uses_of self.now base.now + 1) }
     {
         match self.uses_of(base).checked_add(1) {
             Some(number) => Ok(number),
-            None => Err(Refusal::Memory),
+            None => Err(AllocError),
         }
     }
 
-    /// A base name was used once more, and had this number. The only refusal is that memory ran out, and it leaves all
+    /// A base name was used once more, and had this number. Where it is refused, all is
     /// as it was.
-    pub fn push(&mut self, base: String, number: u64) -> Result<(), Refusal>
+    pub fn push(&mut self, base: String, number: u64) -> Result<(), AllocError>
         requires { number ≡ uses_of self.old (string_bytes base) + 1 }
         ensures ok { OnOk result (self.new ≡ self.old ++ string_bytes base ∷ []) }
-        ensures cause { IfErr result (λ e. e ≡ Memory) }
         ensures kept { OnErr result (self.new ≡ self.old) }
     {
         let key = base.clone()?;
@@ -75,9 +72,8 @@ impl Bases {
     }
 
     /// The same names in memory of their own.
-    pub fn copied(&self, alloc: Global) -> Result<Bases, Refusal>
-        ensures ok { IfOk result (λ copy. copy ≡ self.now) }
-        ensures cause { IfErr result (λ e. e ≡ Memory) }
+    pub fn copied(&self, alloc: Global) -> Result<Bases, AllocError>
+        ensures { IfOk result (λ copy. copy ≡ self.now) }
     {
         let mut copy = Bases::new(alloc);
         for base in &self.bases {

@@ -8,7 +8,6 @@ mod rules;
 mod writer;
 
 pub use columns::{column_name, columns_of, table_name};
-pub use names::Quoting;
 pub use rules::{
     arith_least, comes_later, concat_least, exists_level, mysql_cut, prefix_least, tells_key,
 };

@@ -5,15 +5,8 @@ ghost use Rattle.std.specs.List.{list_any};
 ghost use Rattle.std.specs.Str.{bytes_eq};
 ghost use Rattle.sql_text.specs.Names as spec;
 
+use base_core::Dialect;
 use std::alloc::{AllocError, Global};
-
-/// A dialect, by its rules of quoting.
-#[derive(Clone, Copy, PartialEq, Eq)]
-pub enum Quoting {
-    Sqlite,
-    Postgresql,
-    Mysql,
-}
 
 /// The words that are quoted where they are names.
 const RESERVED: [&str; 62] = [
@@ -123,13 +116,13 @@ pub(crate) fn needs_quotes(name: &str) -> bool
     !begins_plain(name.as_bytes()) || has_odd_byte(name.as_bytes()) || is_reserved(name)
 }
 
-fn quote_of(quoting: Quoting) -> char
-    ensures quote { result ≡ spec.quote_of quoting }
+fn quote_of(dialect: Dialect) -> char
+    ensures quote { result ≡ spec.quote_of dialect }
     ensures ascii { result < 128 }
 {
-    match quoting {
-        Quoting::Sqlite | Quoting::Postgresql => '"',
-        Quoting::Mysql => '`',
+    match dialect {
+        Dialect::Sqlite | Dialect::Postgresql => '"',
+        Dialect::Mysql => '`',
     }
 }
 
@@ -151,12 +144,12 @@ fn doubled(alloc: Global, mark: char, text: &str) -> Result<String, AllocError>
 }
 
 /// The text with `%` doubled, where the dialect's marks begin with it.
-fn with_percents(alloc: Global, quoting: Quoting, text: &str) -> Result<String, AllocError>
-    ensures { IfOk result (λ shown. string_bytes shown ≡ spec.with_percents quoting text.now) }
+fn with_percents(alloc: Global, dialect: Dialect, text: &str) -> Result<String, AllocError>
+    ensures { IfOk result (λ shown. string_bytes shown ≡ spec.with_percents dialect text.now) }
 {
-    match quoting {
-        Quoting::Sqlite => String::from_str(alloc, text),
-        Quoting::Postgresql | Quoting::Mysql => doubled(alloc, '%', text),
+    match dialect {
+        Dialect::Sqlite => String::from_str(alloc, text),
+        Dialect::Postgresql | Dialect::Mysql => doubled(alloc, '%', text),
     }
 }
 
@@ -173,11 +166,11 @@ fn enclosed_in(alloc: Global, mark: char, text: &str) -> Result<String, AllocErr
 }
 
 /// The name in quotes.
-pub(crate) fn quoted(alloc: Global, quoting: Quoting, name: &str) -> Result<String, AllocError>
-    ensures { IfOk result (λ shown. string_bytes shown ≡ spec.quoted_name quoting name.now) }
+pub(crate) fn quoted(alloc: Global, dialect: Dialect, name: &str) -> Result<String, AllocError>
+    ensures { IfOk result (λ shown. string_bytes shown ≡ spec.quoted_name dialect name.now) }
 {
-    let quote = quote_of(quoting);
-    let percents = with_percents(alloc, quoting, name)?;
+    let quote = quote_of(dialect);
+    let percents = with_percents(alloc, dialect, name)?;
     let inner = doubled(alloc, quote, percents.as_str())?;
     enclosed_in(alloc, quote, inner.as_str())
 }

@@ -4,8 +4,7 @@ ghost use Rattle.std.specs.Prelude.{◌≡◌, ◌==◌};
 ghost use Rattle.std.specs.List.{list_any};
 ghost use Rattle.sql_text.specs.Rules as spec;
 
-use crate::Quoting;
-use base_core::ArithOp;
+use base_core::{ArithOp, Dialect};
 
 /// The least levels of an operator's operands. The right one's is higher than the operator's own, so an operand of the same
 /// level stands in parentheses there.
@@ -47,12 +46,12 @@ pub fn mysql_cut(limit: u64, offset: u64) -> (u64, u64)
 }
 
 /// Whether an INSERT tells its key: PostgreSQL's does, where the key is generated.
-pub fn tells_key(quoting: Quoting, generated: bool) -> bool
-    ensures { result ≡ spec.tells_key quoting generated }
+pub fn tells_key(dialect: Dialect, generated: bool) -> bool
+    ensures { result ≡ spec.tells_key dialect generated }
 {
-    match quoting {
-        Quoting::Postgresql => generated,
-        Quoting::Sqlite | Quoting::Mysql => false,
+    match dialect {
+        Dialect::Postgresql => generated,
+        Dialect::Sqlite | Dialect::Mysql => false,
     }
 }
 

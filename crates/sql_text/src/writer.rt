@@ -1,34 +1,67 @@
 //! A text as it is written, piece by piece.
 
-ghost use Rattle.std.specs.Prelude.{◌≡◌, ◌∷◌, [], IfOk, IfErr, OnOk, OnErr, string_bytes};
-ghost use Rattle.base_core.specs.declared.refusal.Refusal.TheVariants.{Memory};
+ghost use Rattle.std.specs.Prelude.{◌≡◌, ◌∷◌, [], IfOk, OnOk, OnErr, string_bytes};
 ghost use Rattle.sql_text.specs.Written as spec;
 ghost use Rattle.sql_text.specs.Written.{Wrote, nothing_written, mark_name};
 
-use crate::Quoting;
 use crate::bases::Bases;
 use crate::names::{cleaned, needs_quotes, quoted};
-use base_core::{Copied, ListOf, Name, Refusal, RowValues, Text, Value, both};
+use base_core::{Copied, Dialect, ListOf, Name, RowValues, Text, Value, both};
 use std::alloc::{AllocError, Global};
 use std::marker::Model;
 
 /// A statement's text, the names of its marks and their values, in the order of the text.
-#[derive(Drop)]
 pub struct Compiled {
     pub text: Text,
     pub names: ListOf<Name>,
     pub values: RowValues,
 }
 
+impl Drop for Compiled {
+    fn drop(self) {
+        let Compiled {
+            text: _,
+            names: _,
+            values: _,
+        } = self;
+    }
+}
+
+impl Compiled {
+    /// The text alone.
+    pub fn into_text(self) -> Text
+        ensures { result ≡ self.text }
+    {
+        let Compiled {
+            text,
+            names: _,
+            values: _,
+        } = self;
+        text
+    }
+}
+
 /// A text as it is written, with its marks and their values.
-#[derive(Drop)]
 pub struct Writer {
     alloc: Global,
-    quoting: Quoting,
+    dialect: Dialect,
     text: String,
     bases: Bases,
     names: Vec<Name>,
     values: Vec<Value>,
+}
+
+impl Drop for Writer {
+    fn drop(self) {
+        let Writer {
+            alloc: _,
+            dialect: _,
+            text: _,
+            bases: _,
+            names: _,
+            values: _,
+        } = self;
+    }
 }
 
 impl Model for Writer {
@@ -37,7 +70,7 @@ impl Model for Writer {
 
     ghost Value = { Written };
 
-    ghost view = { λ w. record { quoting = w.quoting; text = string_bytes w.text; bases = w.bases; names = w.names.items; values = w.values.items } };
+    ghost view = { λ w. record { dialect = w.dialect; text = string_bytes w.text; bases = w.bases; names = w.names.items; values = w.values.items } };
 }
 
 /// A mark's name.
@@ -48,13 +81,13 @@ fn mark_name(alloc: Global, base: &str, number: u64) -> Result<Name, AllocError>
 }
 
 /// A mark of a name as it stands in a text.
-fn mark_text(alloc: Global, quoting: Quoting, shown: &str) -> Result<String, AllocError>
-    ensures { IfOk result (λ text. string_bytes text ≡ spec.mark_text quoting shown.now) }
+fn mark_text(alloc: Global, dialect: Dialect, shown: &str) -> Result<String, AllocError>
+    ensures { IfOk result (λ text. string_bytes text ≡ spec.mark_text dialect shown.now) }
 {
-    match quoting {
-        Quoting::Sqlite => String::from_str(alloc, "?"),
-        Quoting::Postgresql => format!(in alloc; "%({shown})s"),
-        Quoting::Mysql => String::from_str(alloc, "%s"),
+    match dialect {
+        Dialect::Sqlite => String::from_str(alloc, "?"),
+        Dialect::Postgresql => format!(in alloc; "%({shown})s"),
+        Dialect::Mysql => String::from_str(alloc, "%s"),
     }
 }
 
@@ -71,12 +104,12 @@ fn copies<T: Copied + Drop>(alloc: Global, items: &[T]) -> Result<Vec<T>, AllocE
 
 impl Writer {
     /// Nothing is written yet.
-    pub fn new(alloc: Global, quoting: Quoting) -> Writer
-        ensures { result ≡ nothing_written quoting }
+    pub fn new(alloc: Global, dialect: Dialect) -> Writer
+        ensures { result ≡ nothing_written dialect }
     {
         Writer {
             alloc,
-            quoting,
+            dialect,
             text: String::new(alloc),
             bases: Bases::new(alloc),
             names: Vec::new(alloc),
@@ -85,10 +118,10 @@ impl Writer {
     }
 
     /// The dialect.
-    pub fn quoting(&self) -> Quoting
-        ensures { result ≡ self.now.quoting }
+    pub fn dialect(&self) -> Dialect
+        ensures { result ≡ self.now.dialect }
     {
-        self.quoting
+        self.dialect
     }
 
     /// The allocator of what is written.
@@ -96,19 +129,18 @@ impl Writer {
         self.alloc
     }
 
-    /// The words are appended as they are. The only refusal is that memory ran out, and it leaves all as it was.
+    /// The words are appended as they are. Where it is refused, all is as it was.
     #[tactic(auto, unfolding(crate::specs::Written::put_piece, crate::specs::Written::put_all))]
-    pub fn put_words(&mut self, words: &str) -> Result<(), Refusal>
+    pub fn put_words(&mut self, words: &str) -> Result<(), AllocError>
         ensures wrote { Wrote (spec.words words.now ∷ []) result self.old self.new }
         ensures kept { OnErr result (self.new ≡ self.old) }
     {
-        self.text.push_str(words)?;
-        Ok(())
+        self.text.push_str(words)
     }
 
-    /// The name is appended, quoted where it is to be. The only refusal is that memory ran out, and it leaves all as
+    /// The name is appended, quoted where it is to be. Where it is refused, all is as
     /// it was.
-    pub fn put_name(&mut self, name: &Name) -> Result<(), Refusal>
+    pub fn put_name(&mut self, name: &Name) -> Result<(), AllocError>
         ensures wrote { Wrote (spec.name name.now ∷ []) result self.old self.new }
         ensures kept { OnErr result (self.new ≡ self.old) }
     {
@@ -117,22 +149,21 @@ impl Writer {
 
     /// The same of a name that is shown.
     #[tactic(auto, unfolding(crate::specs::Written::put_piece, crate::specs::Written::put_all, crate::specs::Names::name_text))]
-    pub fn put_shown(&mut self, name: &str) -> Result<(), Refusal>
+    pub fn put_shown(&mut self, name: &str) -> Result<(), AllocError>
         ensures wrote { Wrote (spec.name name.now ∷ []) result self.old self.new }
         ensures kept { OnErr result (self.new ≡ self.old) }
     {
         if needs_quotes(name) {
-            let shown = quoted(self.alloc, self.quoting, name)?;
-            self.text.push_str(shown.as_str())?;
+            let shown = quoted(self.alloc, self.dialect, name)?;
+            self.text.push_str(shown.as_str())
         } else {
-            self.text.push_str(name)?;
+            self.text.push_str(name)
         }
-        Ok(())
     }
 
-    /// The next mark under this base name is appended, with the value as its parameter. The only refusal is that memory
-    /// ran out, and it leaves all as it was.
-    pub fn put_value(&mut self, base: &Name, value: &Value) -> Result<(), Refusal>
+    /// The next mark under this base name is appended, with the value as its parameter. Where it is
+    /// refused, all is as it was.
+    pub fn put_value(&mut self, base: &Name, value: &Value) -> Result<(), AllocError>
         ensures wrote { Wrote (spec.value base.now value.now ∷ []) result self.old self.new }
         ensures kept { OnErr result (self.new ≡ self.old) }
     {
@@ -141,7 +172,7 @@ impl Writer {
 
     /// The same under a base name that is shown.
     #[tactic(auto, unfolding(crate::specs::Written::put_piece, crate::specs::Written::put_all))]
-    pub fn put_mark(&mut self, base: &str, value: &Value) -> Result<(), Refusal>
+    pub fn put_mark(&mut self, base: &str, value: &Value) -> Result<(), AllocError>
         ensures wrote { Wrote (spec.value base.now value.now ∷ []) result self.old self.new }
         ensures kept { OnErr result (self.new ≡ self.old) }
     {
@@ -150,14 +181,13 @@ impl Writer {
     }
 
     /// The next mark under a base name that is clean.
-    fn put_next(&mut self, base: String, value: Value) -> Result<(), Refusal>
+    fn put_next(&mut self, base: String, value: Value) -> Result<(), AllocError>
         ensures ok { OnOk result (self.new ≡ spec.put_value self.old (string_bytes base) value) }
-        ensures cause { IfErr result (λ e. e ≡ Memory) }
         ensures kept { OnErr result (self.new ≡ self.old) }
     {
         let number = self.bases.next(base.as_str())?;
         let name = mark_name(self.alloc, base.as_str(), number)?;
-        let shown = mark_text(self.alloc, self.quoting, name.get())?;
+        let shown = mark_text(self.alloc, self.dialect, name.get())?;
         self.names.reserve(1)?;
         self.values.reserve(1)?;
         self.text.reserve(shown.len())?;
@@ -170,10 +200,9 @@ impl Writer {
         Ok(())
     }
 
-    /// The same in memory of its own. The only refusal is that memory ran out.
-    pub fn copied(&self) -> Result<Writer, Refusal>
-        ensures ok { IfOk result (λ copy. copy ≡ self.now) }
-        ensures cause { IfErr result (λ e. e ≡ Memory) }
+    /// The same in memory of its own.
+    pub fn copied(&self) -> Result<Writer, AllocError>
+        ensures { IfOk result (λ copy. copy ≡ self.now) }
     {
         let bases = self.bases.copied(self.alloc)?;
         let (text, (names, values)) = both(
@@ -185,7 +214,7 @@ impl Writer {
         )?;
         Ok(Writer {
             alloc: self.alloc,
-            quoting: self.quoting,
+            dialect: self.dialect,
             text,
             bases,
             names,
@@ -199,7 +228,7 @@ impl Writer {
     {
         let Writer {
             alloc: _,
-            quoting: _,
+            dialect: _,
             text,
             bases: _,
             names,

@@ -1,2 +1,1 @@
-pub mod ItemShapes
 pub mod Varying

@@ -5,5 +5,5 @@ mod shapes;
 mod taken;
 mod varying;
 
-pub use shapes::{ItemShape, answers, item_shapes, kinds_of, legal_rows};
+pub use shapes::{answers, kinds_of, legal_rows};
 pub use taken::statement_of;

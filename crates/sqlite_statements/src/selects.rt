@@ -2,17 +2,18 @@
 
 ghost use Rattle.std.specs.Prelude.{IfErr, IfOk};
 ghost use Rattle.sql_semantics.specs.Plain.{IsPlainSelect};
-ghost use Rattle.sqlite_selects.specs.ItemShapes.{AreAnswers};
+ghost use Rattle.expr_typing.specs.ItemShapes.{AreAnswers};
 ghost use Rattle.sqlite_statements.specs.Endings.{IfRefused, MayRefuseSelect};
 
 use crate::sending::text_of;
 use base_core::RowList;
 use expr_types::Select;
+use expr_typing::{ItemShape, item_shapes};
 use keeper_core::QueryRefusal;
 use schema_core::{Schema, Violation};
 use sql_text::Compiled;
 use sqlite_database::{Database, Ending};
-use sqlite_selects::{ItemShape, answers, item_shapes, kinds_of, statement_of};
+use sqlite_selects::{answers, kinds_of, statement_of};
 use sqlite_tables::ask_compiled;
 use sqlite_tables::tables::store_without_rows;
 use std::alloc::Global;

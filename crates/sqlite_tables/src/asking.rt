@@ -1,19 +1,9 @@
 //! Texts sent with their values, and what they answer.
 
-use base_core::{Kind, Name, Refusal, RowList, Text, Value};
+use base_core::{Kind, Name, RowList, Value};
 use sql_text::{Compiled, Writer};
 use sqlite_database::{Database, Ending};
-use std::alloc::Global;
-
-/// Runs a text, where it could be made.
-pub(crate) fn run_text<D: Database>(
-    database: &mut D,
-    alloc: Global,
-    text: Result<Text, Refusal>,
-) -> Result<u64, Ending> {
-    let text = text?;
-    database.run(alloc, text.get(), &[])
-}
+use std::alloc::{AllocError, Global};
 
 /// The rows of a select, where its text could be made, with a value of each kind.
 pub fn ask_compiled<D: Database>(
@@ -44,7 +34,10 @@ pub(crate) fn integer_of(rows: &RowList) -> Result<Option<i64>, Ending> {
 }
 
 /// What was written, where it could be.
-pub(crate) fn finished(writer: Writer, written: Result<(), Refusal>) -> Result<Compiled, Ending> {
+pub(crate) fn finished(
+    writer: Writer,
+    written: Result<(), AllocError>,
+) -> Result<Compiled, Ending> {
     written?;
     Ok(writer.finish())
 }
@@ -64,7 +57,7 @@ pub(crate) fn put_words_and_name(
     writer: &mut Writer,
     words: &'static str,
     name: &Name,
-) -> Result<(), Refusal> {
+) -> Result<(), AllocError> {
     writer.put_words(words)?;
     writer.put_name(name)
 }

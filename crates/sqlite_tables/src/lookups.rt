@@ -2,17 +2,17 @@
 
 use crate::asking::{ask_compiled, counts_some, finished, integer_of, put_words_and_name};
 use crate::tables::put_names;
-use base_core::{ColumnNo, Key, Kind, Refusal};
+use base_core::{ColumnNo, Dialect, Key, Kind};
 use expr_types::Expr;
 use schema_core::TableSpec;
-use sql_text::{Quoting, Writer};
+use sql_text::Writer;
 use sqlite_database::{Database, Ending};
-use std::alloc::Global;
+use std::alloc::{AllocError, Global};
 
 // ---- the greatest key
 
 /// Writes the select of a table's greatest key, for which SQLite reads the last row alone.
-fn put_greatest_key(writer: &mut Writer, spec: &TableSpec) -> Result<(), Refusal> {
+fn put_greatest_key(writer: &mut Writer, spec: &TableSpec) -> Result<(), AllocError> {
     put_names(writer, "SELECT ", spec.columns.as_slice(), true)?;
     put_words_and_name(writer, " FROM ", &spec.name)?;
     put_names(writer, " ORDER BY ", spec.columns.as_slice(), true)?;
@@ -25,7 +25,7 @@ pub fn greatest_key<D: Database>(
     alloc: Global,
     spec: &TableSpec,
 ) -> Result<Option<i64>, Ending> {
-    let mut writer = Writer::new(alloc, Quoting::Sqlite);
+    let mut writer = Writer::new(alloc, Dialect::Sqlite);
     let written = put_greatest_key(&mut writer, spec);
     let rows = ask_compiled(database, alloc, finished(writer, written), &[Kind::Integer])?;
     if rows.is_empty() {
@@ -37,7 +37,7 @@ pub fn greatest_key<D: Database>(
 // ---- a key
 
 /// Writes the select that counts the rows of a key.
-fn put_count_of_key(writer: &mut Writer, spec: &TableSpec, key: &Key) -> Result<(), Refusal> {
+fn put_count_of_key(writer: &mut Writer, spec: &TableSpec, key: &Key) -> Result<(), AllocError> {
     put_words_and_name(writer, "SELECT count(*) FROM ", &spec.name)?;
     writer.put_words(" WHERE 1 = 1")?;
     let mut place = 0;
@@ -62,7 +62,7 @@ pub fn is_taken<D: Database>(
     spec: &TableSpec,
     key: &Key,
 ) -> Result<bool, Ending> {
-    let mut writer = Writer::new(alloc, Quoting::Sqlite);
+    let mut writer = Writer::new(alloc, Dialect::Sqlite);
     let written = put_count_of_key(&mut writer, spec, key);
     counts_some(database, alloc, finished(writer, written))
 }
@@ -74,7 +74,7 @@ fn put_count_of_reals(
     writer: &mut Writer,
     spec: &TableSpec,
     cells: &[(ColumnNo, Option<Expr>)],
-) -> Result<(), Refusal> {
+) -> Result<(), AllocError> {
     put_words_and_name(writer, "SELECT count(*) FROM ", &spec.name)?;
     writer.put_words(" WHERE 1 = 0")?;
     for cell in cells {
@@ -93,7 +93,7 @@ pub fn has_reals<D: Database>(
     spec: &TableSpec,
     cells: &[(ColumnNo, Option<Expr>)],
 ) -> Result<bool, Ending> {
-    let mut writer = Writer::new(alloc, Quoting::Sqlite);
+    let mut writer = Writer::new(alloc, Dialect::Sqlite);
     let written = put_count_of_reals(&mut writer, spec, cells);
     counts_some(database, alloc, finished(writer, written))
 }

@@ -4,18 +4,18 @@ ghost use Rattle.std.specs.Prelude.{◌≡◌, length, IfOk, IfSome, OnOk};
 ghost use Rattle.schema_core.specs.Catalog.{IsTable};
 ghost use Rattle.keeper_core.specs.Keeping.{AreRowsOf};
 
-use crate::asking::{ask_compiled, counts_some, finished, put_words_and_name, run_text};
-use base_core::{Kind, Name, Refusal, RowList, TableId, Text, Value};
+use crate::asking::{ask_compiled, counts_some, finished, put_words_and_name};
+use base_core::{Dialect, Kind, Name, RowList, TableId, Text, Value};
 use schema_core::{ColumnSpec, Schema, TableSpec, kind_of};
 use sql_statements::sqlite::{ddl, drop_text};
-use sql_text::{Compiled, Quoting, Writer};
+use sql_text::{Compiled, Writer};
 use sqlite_database::{Database, Ending};
 use sqlite_selects::legal_rows;
 use std::alloc::{AllocError, Global};
 use table_log::TableLog;
 
 /// Writes the select that counts the tables of a name.
-fn put_count_of_name(writer: &mut Writer, name: &Name) -> Result<(), Refusal> {
+fn put_count_of_name(writer: &mut Writer, name: &Name) -> Result<(), AllocError> {
     writer.put_words("SELECT count(*) FROM sqlite_schema WHERE type = 'table' AND name = ")?;
     let value = Value::Text(Text::new(String::from_str(writer.alloc(), name.get())?));
     writer.put_value(name, &value)
@@ -27,7 +27,7 @@ pub fn has_table<D: Database>(
     alloc: Global,
     name: &Name,
 ) -> Result<bool, Ending> {
-    let mut writer = Writer::new(alloc, Quoting::Sqlite);
+    let mut writer = Writer::new(alloc, Dialect::Sqlite);
     let written = put_count_of_name(&mut writer, name);
     counts_some(database, alloc, finished(writer, written))
 }
@@ -44,7 +44,8 @@ pub fn create<D: Database>(
     if has_table(database, alloc, &schema.spec(table).name)? {
         return Ok(false);
     }
-    run_text(database, alloc, ddl(alloc, schema, table, &[]))?;
+    let text = ddl(alloc, schema, table, &[])?;
+    database.run(alloc, text.get(), &[])?;
     Ok(true)
 }
 
@@ -60,7 +61,8 @@ pub fn drop_table<D: Database>(
     if !has_table(database, alloc, &schema.spec(table).name)? {
         return Ok(false);
     }
-    run_text(database, alloc, drop_text(alloc, schema, table))?;
+    let text = drop_text(alloc, schema, table)?;
+    database.run(alloc, text.get(), &[])?;
     Ok(true)
 }
 
@@ -84,7 +86,7 @@ pub(crate) fn put_names(
     word: &'static str,
     columns: &[ColumnSpec],
     key: bool,
-) -> Result<(), Refusal> {
+) -> Result<(), AllocError> {
     let mut first = true;
     for column in columns {
         if column.key || !key {
@@ -96,7 +98,7 @@ pub(crate) fn put_names(
 }
 
 /// Writes the select of all rows of a table, ascending by key.
-fn put_whole_table(writer: &mut Writer, spec: &TableSpec) -> Result<(), Refusal> {
+fn put_whole_table(writer: &mut Writer, spec: &TableSpec) -> Result<(), AllocError> {
     put_names(writer, "SELECT ", spec.columns.as_slice(), false)?;
     put_words_and_name(writer, " FROM ", &spec.name)?;
     put_names(writer, " ORDER BY ", spec.columns.as_slice(), true)
@@ -104,7 +106,7 @@ fn put_whole_table(writer: &mut Writer, spec: &TableSpec) -> Result<(), Refusal>
 
 /// The select of all rows of a table, ascending by key.
 fn whole_table(alloc: Global, spec: &TableSpec) -> Result<Compiled, Ending> {
-    let mut writer = Writer::new(alloc, Quoting::Sqlite);
+    let mut writer = Writer::new(alloc, Dialect::Sqlite);
     let written = put_whole_table(&mut writer, spec);
     finished(writer, written)
 }

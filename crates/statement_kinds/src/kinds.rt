@@ -1,9 +1,8 @@
 //! Kinds of a statement's operands, in reading order.
 
-ghost use Rattle.std.specs.Prelude.{◌≡◌, ◌∷◌, ◌++◌, [], IfErr, IfOk};
+ghost use Rattle.std.specs.Prelude.{◌≡◌, ◌∷◌, ◌++◌, [], IfOk};
 ghost use Rattle.base_core.specs.declared.value.Kind.TheVariants.{Boolean};
 ghost use Rattle.std.specs.List.{flat_map};
-ghost use Rattle.base_core.specs.declared.refusal.Refusal.TheVariants.{Memory};
 ghost use Rattle.sql_semantics.specs.Kinds.{column_kind, kind_or_mismatch};
 ghost use Rattle.sql_semantics.specs.Shapes.{scope_of};
 ghost use Rattle.script_names.specs.Faults.{TellsFirst, faults_if_given};
@@ -166,23 +165,22 @@ pub fn judge_kinds(alloc: Global, schema: &Schema, s: &Select) -> Result<(), Ref
 
 // ---- bulk statements
 
-/// The kind of a column of the table. The only refusal is `Memory`.
+/// The kind of a column of the table.
 #[tactic(auto, unfolding(sql_semantics::specs::Kinds::expression_kind))]
 fn kind_at(
     alloc: Global,
     schema: &Schema,
     table: TableId,
     column: ColumnNo,
-) -> Result<Kind, Refusal>
-    ensures value { IfOk result (λ kind. kind ≡ column_kind schema.now (table ∷ []) 0 column) }
-    ensures cause { IfErr result (λ e. e ≡ Memory) }
+) -> Result<Kind, AllocError>
+    ensures { IfOk result (λ kind. kind ≡ column_kind schema.now (table ∷ []) 0 column) }
 {
     let e = Expr::Column(0, column);
     let kind = type_of(alloc, schema, &[table], &e);
     drop(e);
     match kind {
         Ok(kind) => Ok(kind),
-        Err(_) => Err(Refusal::Memory),
+        Err(_) => Err(AllocError),
     }
 }
 

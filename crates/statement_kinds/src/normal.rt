@@ -15,10 +15,7 @@ fn form(alloc: Global, e: &Expr) -> Result<Expr, AllocError>
     ensures { IfOk result (λ n. n ≡ normal e.now) }
 {
     let copy = e.copied_in(alloc)?;
-    match normal(alloc, copy) {
-        Ok(form) => Ok(form),
-        Err(_) => Err(AllocError),
-    }
+    normal(alloc, copy)
 }
 
 fn form_if_given(alloc: Global, e: &Option<Expr>) -> Result<Option<Expr>, AllocError>

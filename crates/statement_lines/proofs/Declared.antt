@@ -13,8 +13,8 @@ use Rattle.schema_core.specs.declared.table.TableSpec.{TableSpec}
 use Rattle.schema_core.specs.Catalog.{Catalog, IsTable, find_table, no_table, same_name, spec_of}
 use Rattle.sql_semantics.specs.Checked.{◌>>=◌}
 use Rattle.sql_tables.specs.Ddl.{create_text_or_refusal, ddl, first_unsized, unsized_in}
-use Rattle.sql_text.specs.declared.names.Quoting.{Quoting}
-use Rattle.sql_text.specs.declared.names.Quoting.TheVariants.{Sqlite, Postgresql, Mysql}
+use Rattle.base_core.specs.declared.dialect.Dialect.{Dialect}
+use Rattle.base_core.specs.declared.dialect.Dialect.TheVariants.{Sqlite, Postgresql, Mysql}
 use Rattle.statement_lines.specs.CompiledLines.{IsOfCompiling, table_compiled}
 
 at_place : (tables : List TableSpec) (test : TableSpec → Bool) (place : Option ℕ) (table : TableId) → position test tables ≡ place → option_map (λ (n : ℕ). record { 0 = n }) place ≡ Some table → table.0 < length tables
@@ -28,7 +28,7 @@ pub found_inside : (schema : Catalog) (name : List ℕ) (table : TableId) → fi
 found_inside schema name table found = at_place schema.tables (λ spec. same_name spec.name name) (position (λ spec. same_name spec.name name) schema.tables) table refl found
 
 -- a table that is not declared has no column, and so none without a type
-pub undeclared_compiled : (quoting : Quoting) (schema : Catalog) (table : TableId) → length schema.tables ≤ table.0 → table_compiled quoting schema table ≡ Ok tt
+pub undeclared_compiled : (dialect : Dialect) (schema : Catalog) (table : TableId) → length schema.tables ≤ table.0 → table_compiled dialect schema table ≡ Ok tt
 unfolding ddl
 undeclared_compiled Sqlite schema table beyond = refl
 undeclared_compiled Postgresql schema table beyond = refl
@@ -36,19 +36,19 @@ undeclared_compiled Mysql schema table beyond =
     let none : unsized_in Mysql (spec_of schema table).columns ≡ None = ap (λ (spec : TableSpec). first_unsized 0 spec.columns) (get_or-eq_default schema.tables no_table beyond) in
     ap (λ (column : Option ColumnNo). create_text_or_refusal Mysql schema table [] column >>= λ text. Ok tt) none
 
-unsized_refused : (quoting : Quoting) (schema : Catalog) (table : TableId) (column : Option ColumnNo) (e : Refusal) → create_text_or_refusal quoting schema table [] column ≡ Err e → IsOfCompiling e
-unsized_refused quoting schema table None e is = absurd (cc)
-unsized_refused quoting schema table (Some column) e is = let same : CompileError table column ≡ e = cc in subst IsOfCompiling same tt
+unsized_refused : (dialect : Dialect) (schema : Catalog) (table : TableId) (column : Option ColumnNo) (e : Refusal) → create_text_or_refusal dialect schema table [] column ≡ Err e → IsOfCompiling e
+unsized_refused dialect schema table None e is = absurd (cc)
+unsized_refused dialect schema table (Some column) e is = let same : CompileError table column ≡ e = cc in subst IsOfCompiling same tt
 
 -- a table's text is refused for a column without a type alone
-ddl_refused : (quoting : Quoting) (schema : Catalog) (table : TableId) (e : Refusal) → ddl quoting schema table [] ≡ Err e → IsOfCompiling e
+ddl_refused : (dialect : Dialect) (schema : Catalog) (table : TableId) (e : Refusal) → ddl dialect schema table [] ≡ Err e → IsOfCompiling e
 unfolding ddl
-ddl_refused quoting schema table e is = unsized_refused quoting schema table (unsized_in quoting (spec_of schema table).columns) e is
+ddl_refused dialect schema table e is = unsized_refused dialect schema table (unsized_in dialect (spec_of schema table).columns) e is
 
-pub text_refused : (quoting : Quoting) (schema : Catalog) (table : TableId) (r : Result (List ℕ) Refusal) → Gives (λ (text : List ℕ). text) r (ddl quoting schema table []) → IfErr r IsOfCompiling
-text_refused quoting schema table (Ok text) p = tt
-text_refused quoting schema table (Err Memory) p = tt
-text_refused quoting schema table (Err e) p = ddl_refused quoting schema table e p
+pub text_refused : (dialect : Dialect) (schema : Catalog) (table : TableId) (r : Result (List ℕ) Refusal) → Gives (λ (text : List ℕ). text) r (ddl dialect schema table []) → IfErr r IsOfCompiling
+text_refused dialect schema table (Ok text) p = tt
+text_refused dialect schema table (Err Memory) p = tt
+text_refused dialect schema table (Err e) p = ddl_refused dialect schema table e p
 
 pub ruleset refused = (text_refused)
 

@@ -11,7 +11,7 @@ use Rattle.expr_types.specs.declared.select.Statement.TheVariants as statements
 use Rattle.sql_semantics.specs.Checked.{Checked, ◌>>=◌}
 use Rattle.script_types.specs.declared.command.Command.{Command}
 use Rattle.script_types.specs.declared.command.Command.TheVariants as line
-use Rattle.script_types.specs.declared.command.Dialect.{Dialect}
+use Rattle.base_core.specs.declared.dialect.Dialect.{Dialect}
 use Rattle.script_types.specs.declared.select.SynBulk.{SynBulk}
 use Rattle.script_types.specs.declared.select.SynSelect.{SynSelect}
 use Rattle.script_resolve.specs.Bulks.{resolved_bulk}
@@ -19,8 +19,7 @@ use Rattle.script_resolve.specs.Refusals.{CanRefuse}
 use Rattle.script_resolve.specs.Selects.{resolved_select}
 use Rattle.sql_statements.specs.Texts.{text_of}
 use Rattle.sql_tables.specs.Ddl.{ddl}
-use Rattle.sql_text.specs.declared.names.Quoting.{Quoting}
-use Rattle.statement_lines.specs.StatementLines.{quoting_of, statement_text}
+use Rattle.statement_lines.specs.StatementLines.{statement_text}
 
 -- ---- statements
 
@@ -32,41 +31,41 @@ abbrev pub bulk_said : Catalog → SynBulk → Checked Statement
 bulk_said schema b = resolved_bulk schema b >>= λ bulk. Ok (statements.Bulk bulk)
 
 -- a statement's text, and its values in a line of their own
-abbrev pub lines_of : Quoting → Catalog → Statement → List ℕ
-lines_of quoting schema statement = statement_text quoting (text_of quoting schema statement) ++ codes "\n"
+abbrev pub lines_of : Dialect → Catalog → Statement → List ℕ
+lines_of dialect schema statement = statement_text dialect (text_of dialect schema statement) ++ codes "\n"
 
 -- what is answered to `compile DIALECT rows SELECT`
 abbrev pub compiled_rows : Dialect → Catalog → SynSelect → Checked (List ℕ)
-compiled_rows dialect schema s = select_said schema s >>= λ statement. Ok (lines_of (quoting_of dialect) schema statement)
+compiled_rows dialect schema s = select_said schema s >>= λ statement. Ok (lines_of dialect schema statement)
 
 -- what is answered to `compile DIALECT bulk BULK`
 abbrev pub compiled_bulk : Dialect → Catalog → SynBulk → Checked (List ℕ)
-compiled_bulk dialect schema b = bulk_said schema b >>= λ statement. Ok (lines_of (quoting_of dialect) schema statement)
+compiled_bulk dialect schema b = bulk_said schema b >>= λ statement. Ok (lines_of dialect schema statement)
 
 -- ---- tables
 
-abbrev pub line_of_table : Quoting → Catalog → TableId → Checked (List ℕ)
-line_of_table quoting schema table = ddl quoting schema table [] >>= λ text. Ok (text ++ codes "\n")
+abbrev pub line_of_table : Dialect → Catalog → TableId → Checked (List ℕ)
+line_of_table dialect schema table = ddl dialect schema table [] >>= λ text. Ok (text ++ codes "\n")
 
-abbrev pub line_of_found : Quoting → Catalog → List ℕ → Option TableId → Checked (List ℕ)
-line_of_found quoting schema name None = Err (InvalidRequestError (Unknown name))
-line_of_found quoting schema name (Some table) = line_of_table quoting schema table
+abbrev pub line_of_found : Dialect → Catalog → List ℕ → Option TableId → Checked (List ℕ)
+line_of_found dialect schema name None = Err (InvalidRequestError (Unknown name))
+line_of_found dialect schema name (Some table) = line_of_table dialect schema table
 
 -- what is answered to `compile DIALECT table NAME`: the text that makes the table, with all its foreign keys
 abbrev pub compiled_table : Dialect → Catalog → List ℕ → Checked (List ℕ)
-compiled_table dialect schema name = line_of_found (quoting_of dialect) schema name (find_table schema.tables name)
+compiled_table dialect schema name = line_of_found dialect schema name (find_table schema.tables name)
 
 -- the table has a text, or the first of its columns that has none is answered
-abbrev pub table_compiled : Quoting → Catalog → TableId → Checked (Unit {0})
-table_compiled quoting schema table = ddl quoting schema table [] >>= λ text. Ok tt
+abbrev pub table_compiled : Dialect → Catalog → TableId → Checked (Unit {0})
+table_compiled dialect schema table = ddl dialect schema table [] >>= λ text. Ok tt
 
-abbrev pub each_compiled : Quoting → Catalog → List TableId → Checked (Unit {0})
-each_compiled quoting schema [] = Ok tt
-each_compiled quoting schema (table ∷ tables) = table_compiled quoting schema table >>= λ u. each_compiled quoting schema tables
+abbrev pub each_compiled : Dialect → Catalog → List TableId → Checked (Unit {0})
+each_compiled dialect schema [] = Ok tt
+each_compiled dialect schema (table ∷ tables) = table_compiled dialect schema table >>= λ u. each_compiled dialect schema tables
 
 -- all tables have texts, or the first fault is answered of the tables in the order in which they are made
 abbrev pub tables_compiled : Dialect → Catalog → Checked (Unit {0})
-tables_compiled dialect schema = each_compiled (quoting_of dialect) schema (dependency_order schema)
+tables_compiled dialect schema = each_compiled dialect schema (dependency_order schema)
 
 -- ---- lines
 

@@ -13,7 +13,7 @@ use Rattle.keeper_core.specs.declared.sent.Sent.{Sent}
 use Rattle.keeper_core.specs.declared.sent.Sent.TheVariants as sent
 use Rattle.keeper_core.specs.declared.notes.Note.{Note}
 use Rattle.keeper_core.specs.declared.notes.Note.TheVariants as note
-use Rattle.sql_text.specs.declared.names.Quoting.{Quoting}
+use Rattle.base_core.specs.declared.dialect.Dialect.{Dialect}
 use Rattle.sql_text.specs.declared.writer.Compiled.{Compiled}
 use Rattle.sql_statements.specs.Texts.{text_of}
 use Rattle.sql_tables.specs.Ddl.{alter, ddl, drop_text}
@@ -31,15 +31,15 @@ abbrev pub savepoint_line : List ℕ → ℕ → List ℕ
 savepoint_line words number = codes "sql> " ++ (words ++ (codes " sa_savepoint_" ++ (decimal number ++ codes "\n")))
 
 -- the line of a text with marks, and that of its values
-abbrev pub compiled_lines : Quoting → Compiled → List ℕ
-compiled_lines quoting compiled = sql_line (statement_text quoting compiled)
+abbrev pub compiled_lines : Dialect → Compiled → List ℕ
+compiled_lines dialect compiled = sql_line (statement_text dialect compiled)
 
-abbrev pub statement_lines : Quoting → Catalog → Statement → List ℕ
-statement_lines quoting schema statement = compiled_lines quoting (text_of quoting schema statement)
+abbrev pub statement_lines : Dialect → Catalog → Statement → List ℕ
+statement_lines dialect schema statement = compiled_lines dialect (text_of dialect schema statement)
 
 -- a number of rows from 2 ^ 63 on has no text
-abbrev pub select_lines : Quoting → Catalog → Select → List ℕ
-select_lines quoting schema select = if is_limit select.limit && is_limit select.offset then statement_lines quoting schema (statements.Select select) else []
+abbrev pub select_lines : Dialect → Catalog → Select → List ℕ
+select_lines dialect schema select = if is_limit select.limit && is_limit select.offset then statement_lines dialect schema (statements.Select select) else []
 
 -- ---- tables
 
@@ -48,42 +48,42 @@ made_line (Ok text) = sql_line text
 made_line (Err e) = []
 
 -- the line that makes a table, without the foreign keys that are added later
-abbrev pub create_line : Quoting → Catalog → TableId → List ℕ
-create_line quoting schema table =
-    if nat_lt table.0 (length schema.tables) then made_line (ddl quoting schema table (later_foreigns quoting schema table)) else []
+abbrev pub create_line : Dialect → Catalog → TableId → List ℕ
+create_line dialect schema table =
+    if nat_lt table.0 (length schema.tables) then made_line (ddl dialect schema table (later_foreigns dialect schema table)) else []
 
-abbrev pub drop_line : Quoting → Catalog → TableId → List ℕ
-drop_line quoting schema table = sql_line (drop_text quoting schema table)
+abbrev pub drop_line : Dialect → Catalog → TableId → List ℕ
+drop_line dialect schema table = sql_line (drop_text dialect schema table)
 
-abbrev pub alter_line : Quoting → Catalog → TableId → ℕ → List ℕ
-alter_line quoting schema table number = sql_line (alter quoting schema table number)
+abbrev pub alter_line : Dialect → Catalog → TableId → ℕ → List ℕ
+alter_line dialect schema table number = sql_line (alter dialect schema table number)
 
 -- the lines that add the foreign keys of a table
-abbrev pub alter_lines : Quoting → Catalog → TableId → List ℕ
-alter_lines quoting schema table =
-    if nat_lt table.0 (length schema.tables) then flat_map (alter_line quoting schema table) (later_foreigns quoting schema table) else []
+abbrev pub alter_lines : Dialect → Catalog → TableId → List ℕ
+alter_lines dialect schema table =
+    if nat_lt table.0 (length schema.tables) then flat_map (alter_line dialect schema table) (later_foreigns dialect schema table) else []
 
 -- ---- all that was sent
 
 -- the lines of a statement that a keeper was sent
-abbrev pub sent_lines : Quoting → Catalog → Sent → List ℕ
-sent_lines quoting schema (sent.Create table) = create_line quoting schema table
-sent_lines quoting schema (sent.Drop table) = drop_line quoting schema table
-sent_lines quoting schema sent.Begin = sql_line (codes "BEGIN")
-sent_lines quoting schema (sent.Savepoint number) = savepoint_line (codes "SAVEPOINT") number
-sent_lines quoting schema (sent.Release number) = savepoint_line (codes "RELEASE SAVEPOINT") number
-sent_lines quoting schema (sent.RollbackTo number) = savepoint_line (codes "ROLLBACK TO SAVEPOINT") number
-sent_lines quoting schema sent.Rollback = sql_line (codes "ROLLBACK")
-sent_lines quoting schema sent.Commit = sql_line (codes "COMMIT")
-sent_lines quoting schema (sent.Write statement) = statement_lines quoting schema (statements.Row statement)
-sent_lines quoting schema (sent.Bulk statement) = statement_lines quoting schema (statements.Bulk statement)
-sent_lines quoting schema (sent.Query select) = select_lines quoting schema select
+abbrev pub sent_lines : Dialect → Catalog → Sent → List ℕ
+sent_lines dialect schema (sent.Create table) = create_line dialect schema table
+sent_lines dialect schema (sent.Drop table) = drop_line dialect schema table
+sent_lines dialect schema sent.Begin = sql_line (codes "BEGIN")
+sent_lines dialect schema (sent.Savepoint number) = savepoint_line (codes "SAVEPOINT") number
+sent_lines dialect schema (sent.Release number) = savepoint_line (codes "RELEASE SAVEPOINT") number
+sent_lines dialect schema (sent.RollbackTo number) = savepoint_line (codes "ROLLBACK TO SAVEPOINT") number
+sent_lines dialect schema sent.Rollback = sql_line (codes "ROLLBACK")
+sent_lines dialect schema sent.Commit = sql_line (codes "COMMIT")
+sent_lines dialect schema (sent.Write statement) = statement_lines dialect schema (statements.Row statement)
+sent_lines dialect schema (sent.Bulk statement) = statement_lines dialect schema (statements.Bulk statement)
+sent_lines dialect schema (sent.Query select) = select_lines dialect schema select
 
-abbrev pub sent_alters : Quoting → Catalog → Sent → List ℕ
-sent_alters quoting schema (sent.Create table) = alter_lines quoting schema table
-sent_alters quoting schema other = []
+abbrev pub sent_alters : Dialect → Catalog → Sent → List ℕ
+sent_alters dialect schema (sent.Create table) = alter_lines dialect schema table
+sent_alters dialect schema other = []
 
 -- the lines that add foreign keys, where a note is one of a table that was made
-abbrev pub note_alters : Quoting → Catalog → Note → List ℕ
-note_alters quoting schema (note.Sent it) = sent_alters quoting schema it
-note_alters quoting schema other = []
+abbrev pub note_alters : Dialect → Catalog → Note → List ℕ
+note_alters dialect schema (note.Sent it) = sent_alters dialect schema it
+note_alters dialect schema other = []

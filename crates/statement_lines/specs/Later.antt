@@ -5,8 +5,8 @@ use Rattle.base_core.specs.declared.ids.TableId.{TableId}
 use Rattle.schema_core.specs.declared.table.ForeignSpec.{ForeignSpec}
 use Rattle.schema_core.specs.Catalog.{Catalog, spec_of, target_of}
 use Rattle.schema_core.specs.DependencyOrder.{dependency_order}
-use Rattle.sql_text.specs.declared.names.Quoting.{Quoting}
-use Rattle.sql_text.specs.declared.names.Quoting.TheVariants.{Sqlite, Postgresql, Mysql}
+use Rattle.base_core.specs.declared.dialect.Dialect.{Dialect}
+use Rattle.base_core.specs.declared.dialect.Dialect.TheVariants.{Sqlite, Postgresql, Mysql}
 
 -- the place of a table in an order
 abbrev pub place_in : List TableId → TableId → Option ℕ
@@ -37,7 +37,7 @@ numbers_behind schema order table = numbers_from schema order table 0 (spec_of s
 
 -- The numbers of a table's foreign keys that are added once all tables are made: those whose targets are made behind the table. In SQLite a
 -- table is made with all of them.
-abbrev pub later_foreigns : Quoting → Catalog → TableId → List ℕ
+abbrev pub later_foreigns : Dialect → Catalog → TableId → List ℕ
 later_foreigns Sqlite schema table = []
 later_foreigns Postgresql schema table = numbers_behind schema (dependency_order schema) table
 later_foreigns Mysql schema table = numbers_behind schema (dependency_order schema) table

@@ -3,17 +3,9 @@ use Rattle.std.specs.Prelude.{ℕ, List, [], ◌∷◌, ◌++◌, codes}
 use Rattle.std.specs.List.{zip}
 use Rattle.base_core.specs.declared.value.Value.{Value}
 use Rattle.printing.specs.Texts.{row_text, value_text, with_separators}
-use Rattle.script_types.specs.declared.command.Dialect.{Dialect}
-use Rattle.script_types.specs.declared.command.Dialect.TheVariants as dialects
-use Rattle.sql_text.specs.declared.names.Quoting.{Quoting}
-use Rattle.sql_text.specs.declared.names.Quoting.TheVariants.{Sqlite, Postgresql, Mysql}
+use Rattle.base_core.specs.declared.dialect.Dialect.{Dialect}
+use Rattle.base_core.specs.declared.dialect.Dialect.TheVariants.{Postgresql}
 use Rattle.sql_text.specs.declared.writer.Compiled.{Compiled}
-
--- how the texts of a dialect are written
-abbrev pub quoting_of : Dialect → Quoting
-quoting_of dialects.Sqlite = Sqlite
-quoting_of dialects.Postgresql = Postgresql
-quoting_of dialects.Mysql = Mysql
 
 -- a mark's name and its value
 abbrev pub named_value : List ℕ × Value → List ℕ
@@ -23,14 +15,14 @@ abbrev pub named_values : List (List ℕ) → List Value → List ℕ
 named_values names values = 40 ∷ with_separators (codes ", ") named_value (zip names values) ++ 41 ∷ []
 
 -- the values of a text's marks in parentheses; PostgreSQL's marks have names
-abbrev pub values_text : Quoting → Compiled → List ℕ
+abbrev pub values_text : Dialect → Compiled → List ℕ
 values_text Postgresql it = named_values it.names it.values
-values_text quoting it = row_text it.values
+values_text dialect it = row_text it.values
 
-abbrev pub values_line : Quoting → Compiled → List Value → List ℕ
-values_line quoting it [] = []
-values_line quoting it (value ∷ values) = 10 ∷ codes "par> " ++ values_text quoting it
+abbrev pub values_line : Dialect → Compiled → List Value → List ℕ
+values_line dialect it [] = []
+values_line dialect it (value ∷ values) = 10 ∷ codes "par> " ++ values_text dialect it
 
 -- the text, and the line of the values, if there are any
-abbrev pub statement_text : Quoting → Compiled → List ℕ
-statement_text quoting it = it.text ++ values_line quoting it it.values
+abbrev pub statement_text : Dialect → Compiled → List ℕ
+statement_text dialect it = it.text ++ values_line dialect it it.values

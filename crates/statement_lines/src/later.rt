@@ -1,15 +1,13 @@
 //! Foreign keys that are added once all tables are made.
 
-ghost use Rattle.std.specs.Prelude.{◌≡◌, ◌<◌, ◌+◌, ◌++◌, length, true, IfErr, IfOk, OnOk};
+ghost use Rattle.std.specs.Prelude.{◌≡◌, ◌<◌, ◌+◌, ◌++◌, length, true, IfOk, OnOk};
 ghost use Rattle.std.specs.List.{All};
-ghost use Rattle.base_core.specs.declared.refusal.Refusal.TheVariants.{Memory};
 ghost use Rattle.schema_core.specs.Catalog.{IsTable, spec_of};
 ghost use Rattle.statement_lines.specs.Later as spec;
 
-use base_core::{Refusal, TableId};
+use base_core::{Dialect, TableId};
 use schema_core::Schema;
-use sql_text::Quoting;
-use std::alloc::Global;
+use std::alloc::{AllocError, Global};
 
 /// The place of a table in an order.
 fn place_in(order: &[TableId], table: TableId) -> Option<usize>
@@ -39,21 +37,19 @@ fn is_behind(order: &[TableId], table: TableId, target: Option<TableId>) -> bool
 }
 
 /// The next number. One past 32 bits, which no memory holds, is answered as memory that ran out.
-fn next_number(number: u32) -> Result<u32, Refusal>
-    ensures next { IfOk result (λ next. next ≡ number + 1) }
-    ensures cause { IfErr result (λ e. e ≡ Memory) }
+fn next_number(number: u32) -> Result<u32, AllocError>
+    ensures { IfOk result (λ next. next ≡ number + 1) }
 {
     match number.checked_add(1) {
         Some(next) => Ok(next),
-        None => Err(Refusal::Memory),
+        None => Err(AllocError),
     }
 }
 
-/// Puts the number of a foreign key behind others, if its target comes behind its table. The only refusal is `Memory`.
-fn put_number(numbers: &mut Vec<u32>, behind: bool, number: u32) -> Result<(), Refusal>
-    ensures ok { OnOk result
+/// Puts the number of a foreign key behind others, if its target comes behind its table.
+fn put_number(numbers: &mut Vec<u32>, behind: bool, number: u32) -> Result<(), AllocError>
+    ensures { OnOk result
         (numbers.new.items ≡ numbers.old.items ++ spec.number_if behind number) }
-    ensures cause { IfErr result (λ e. e ≡ Memory) }
 {
     if behind {
         numbers.push(number)?;
@@ -61,19 +57,18 @@ fn put_number(numbers: &mut Vec<u32>, behind: bool, number: u32) -> Result<(), R
     Ok(())
 }
 
-/// The numbers of the foreign keys whose targets come behind their table in an order. The only refusal is `Memory`.
+/// The numbers of the foreign keys whose targets come behind their table in an order.
 fn numbers_behind(
     alloc: Global,
     schema: &Schema,
     order: &[TableId],
     table: TableId,
-) -> Result<Vec<u32>, Refusal>
+) -> Result<Vec<u32>, AllocError>
     requires { IsTable schema.now table }
     ensures numbers { IfOk result
         (λ numbers. numbers.items ≡ spec.numbers_behind schema.now order.now table) }
     ensures numbered { IfOk result (λ numbers.
         All (λ number. number < length (spec_of schema.now table).foreigns) numbers.items) }
-    ensures cause { IfErr result (λ e. e ≡ Memory) }
 {
     let foreigns = schema.spec(table).foreigns.as_slice();
     let mut numbers = Vec::new(alloc);
@@ -86,24 +81,23 @@ fn numbers_behind(
     Ok(numbers)
 }
 
-/// The numbers of a table's foreign keys that are added once all tables are made. The only refusal is `Memory`.
+/// The numbers of a table's foreign keys that are added once all tables are made.
 pub(crate) fn later_foreigns(
     alloc: Global,
-    quoting: Quoting,
+    dialect: Dialect,
     schema: &Schema,
     table: TableId,
-) -> Result<Vec<u32>, Refusal>
+) -> Result<Vec<u32>, AllocError>
     requires declared { IsTable schema.now table }
     requires resolved { schema.now.resolved ≡ true }
     ensures numbers { IfOk result
-        (λ numbers. numbers.items ≡ spec.later_foreigns quoting schema.now table) }
+        (λ numbers. numbers.items ≡ spec.later_foreigns dialect schema.now table) }
     ensures numbered { IfOk result (λ numbers.
         All (λ number. number < length (spec_of schema.now table).foreigns) numbers.items) }
-    ensures cause { IfErr result (λ e. e ≡ Memory) }
 {
-    match quoting {
-        Quoting::Sqlite => Ok(Vec::new(alloc)),
-        Quoting::Postgresql | Quoting::Mysql => {
+    match dialect {
+        Dialect::Sqlite => Ok(Vec::new(alloc)),
+        Dialect::Postgresql | Dialect::Mysql => {
             let order = schema.tables_in_order(alloc)?;
             numbers_behind(alloc, schema, order.as_slice(), table)
         }

@@ -6,12 +6,10 @@
 mod later;
 mod line;
 mod lines;
-mod quoting;
 mod statements;
 mod tables;
 mod text;
 
 pub use line::compile_line;
 pub use lines::{put_later_foreigns, put_sent};
-pub use quoting::quoting_of;
 pub use tables::compile_tables;

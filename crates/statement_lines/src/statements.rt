@@ -1,6 +1,6 @@
 //! The texts of statements as lines say them.
 
-ghost use Rattle.std.specs.Prelude.{◌≡◌, ◌++◌, Ok, IfErr, IfOk, IsTrue, codes, string_bytes};
+ghost use Rattle.std.specs.Prelude.{◌≡◌, ◌++◌, IfErr, IfOk, IsTrue, codes, string_bytes};
 ghost use Rattle.base_core.specs.Answers.{Gives};
 ghost use Rattle.script_resolve.specs.Sayable.{is_sayable_select};
 ghost use Rattle.sql_statements.specs.Texts.{HasCuts};
@@ -8,17 +8,16 @@ ghost use Rattle.statement_lines.specs.StatementLines.{statement_text};
 ghost use Rattle.statement_lines.specs.CompiledLines as spec;
 ghost use Rattle.statement_lines.specs.CompiledLines.{IsOfCompiling};
 
-use crate::quoting::quoting_of;
 use crate::text::StatementText;
-use base_core::Refusal;
+use base_core::{Dialect, Refusal};
 use expr_types::Statement;
 use schema_core::Schema;
 use script_resolve::{resolve_bulk, resolve_select};
-use script_types::{Dialect, SynBulk, SynSelect};
+use script_types::{SynBulk, SynSelect};
 use sql_statements::compiled;
-use sql_text::{Compiled, Quoting};
+use sql_text::Compiled;
 use sqlite_items::Boxed;
-use std::alloc::Global;
+use std::alloc::{AllocError, Global};
 
 /// The statement of a select as a line says it.
 #[tactic(auto, using(crate::proofs::Compiling::selecting))]
@@ -47,32 +46,28 @@ fn bulk_of(alloc: Global, schema: &Schema, bulk: &SynBulk) -> Result<Boxed<State
     Ok(Boxed::new(alloc, Statement::Bulk(bulk))?)
 }
 
-/// The lines of a text and of its values. The only refusal is `Memory`.
-fn lines_of(alloc: Global, quoting: Quoting, compiled: &Compiled) -> Result<String, Refusal>
-    ensures lines { IfOk result
-        (λ lines. string_bytes lines ≡ statement_text quoting compiled.now ++ codes "\n") }
-    ensures cause { IfErr result (λ e. e ≡ Refusal.Memory) }
+/// The lines of a text and of its values.
+fn lines_of(alloc: Global, dialect: Dialect, compiled: &Compiled) -> Result<String, AllocError>
+    ensures { IfOk result
+        (λ lines. string_bytes lines ≡ statement_text dialect compiled.now ++ codes "\n") }
 {
-    let shown = StatementText { quoting, compiled };
+    let shown = StatementText { dialect, compiled };
     Ok(format!(in alloc; "{shown}\n")?)
 }
 
-/// The lines of a statement. The only refusal is `Memory`.
+/// The lines of a statement.
 fn lines_of_statement(
     alloc: Global,
-    quoting: Quoting,
+    dialect: Dialect,
     schema: &Schema,
     statement: &Statement,
-) -> Result<String, Refusal>
+) -> Result<String, AllocError>
     requires { HasCuts statement.now }
-    ensures lines { Gives string_bytes result
-        (Ok (spec.lines_of quoting schema.now statement.now)) }
-    ensures cause { IfErr result (λ e. e ≡ Refusal.Memory) }
+    ensures { IfOk result
+        (λ lines. string_bytes lines ≡ spec.lines_of dialect schema.now statement.now) }
 {
-    match compiled(alloc, quoting, schema, statement) {
-        Ok(compiled) => lines_of(alloc, quoting, &compiled),
-        Err(_) => Err(Refusal::Memory),
-    }
+    let compiled = compiled(alloc, dialect, schema, statement)?;
+    lines_of(alloc, dialect, &compiled)
 }
 
 /// What is answered to `compile DIALECT rows SELECT`: the text of the select, and its values in a line of their own.
@@ -92,7 +87,7 @@ pub(crate) fn compile_rows(
     ensures cause { IfErr result IsOfCompiling }
 {
     let statement = select_of(alloc, schema, select)?;
-    lines_of_statement(alloc, quoting_of(dialect), schema, statement.get())
+    Ok(lines_of_statement(alloc, dialect, schema, statement.get())?)
 }
 
 /// What is answered to `compile DIALECT bulk BULK`: the text of the statement, and its values in a line of their own. That it sets
@@ -112,5 +107,5 @@ pub(crate) fn compile_bulk(
     ensures cause { IfErr result IsOfCompiling }
 {
     let statement = bulk_of(alloc, schema, bulk)?;
-    lines_of_statement(alloc, quoting_of(dialect), schema, statement.get())
+    Ok(lines_of_statement(alloc, dialect, schema, statement.get())?)
 }

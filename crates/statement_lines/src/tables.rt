@@ -7,18 +7,14 @@ ghost use Rattle.sql_tables.specs.Ddl.{ddl as ddl_of};
 ghost use Rattle.statement_lines.specs.CompiledLines as spec;
 ghost use Rattle.statement_lines.specs.CompiledLines.{IsOfCompiling};
 
-use crate::quoting::quoting_of;
-use base_core::{Copied, Name, Refusal, RequestKind, TableId, Text};
+use base_core::{Copied, Dialect, Name, Refusal, RequestKind, TableId, Text};
 use schema_core::Schema;
-use script_types::Dialect;
 use sql_tables::ddl;
-use sql_text::Quoting;
-use std::alloc::Global;
+use std::alloc::{AllocError, Global};
 
-/// The line of a text. The only refusal is `Memory`.
-fn line_of(alloc: Global, text: &Text) -> Result<String, Refusal>
-    ensures line { IfOk result (λ line. string_bytes line ≡ text.now ++ codes "\n") }
-    ensures cause { IfErr result (λ e. e ≡ Refusal.Memory) }
+/// The line of a text.
+fn line_of(alloc: Global, text: &Text) -> Result<String, AllocError>
+    ensures { IfOk result (λ line. string_bytes line ≡ text.now ++ codes "\n") }
 {
     let shown = text.get();
     Ok(format!(in alloc; "{shown}\n")?)
@@ -28,31 +24,31 @@ fn line_of(alloc: Global, text: &Text) -> Result<String, Refusal>
 #[tactic(auto, using(crate::proofs::Declared::refused))]
 fn text_of_table(
     alloc: Global,
-    quoting: Quoting,
+    dialect: Dialect,
     schema: &Schema,
     table: TableId,
 ) -> Result<Text, Refusal>
     requires { IsTable schema.now table }
-    ensures text { Gives (λ text. text) result (ddl_of quoting schema.now table []) }
+    ensures text { Gives (λ text. text) result (ddl_of dialect schema.now table []) }
     ensures cause { IfErr result IsOfCompiling }
 {
-    ddl(alloc, quoting, schema, table, &[])
+    ddl(alloc, dialect, schema, table, &[])
 }
 
 /// The line that makes a table, with all its foreign keys.
 #[tactic(auto, using(crate::proofs::Compiling::ending))]
 fn line_of_table(
     alloc: Global,
-    quoting: Quoting,
+    dialect: Dialect,
     schema: &Schema,
     table: TableId,
 ) -> Result<String, Refusal>
     requires { IsTable schema.now table }
-    ensures line { Gives string_bytes result (spec.line_of_table quoting schema.now table) }
+    ensures line { Gives string_bytes result (spec.line_of_table dialect schema.now table) }
     ensures cause { IfErr result IsOfCompiling }
 {
-    let text = text_of_table(alloc, quoting, schema, table)?;
-    line_of(alloc, &text)
+    let text = text_of_table(alloc, dialect, schema, table)?;
+    Ok(line_of(alloc, &text)?)
 }
 
 /// What is answered to `compile DIALECT table NAME`: the text that makes the table, all its foreign keys in it.
@@ -71,7 +67,7 @@ pub(crate) fn compile_table(
     ensures cause { IfErr result IsOfCompiling }
 {
     match schema.find(name) {
-        Some(table) => line_of_table(alloc, quoting_of(dialect), schema, table),
+        Some(table) => line_of_table(alloc, dialect, schema, table),
         None => {
             let unknown = RequestKind::Unknown(name.copied()?);
             Err(Refusal::InvalidRequestError(unknown))
@@ -83,15 +79,15 @@ pub(crate) fn compile_table(
 #[tactic(auto, using(crate::proofs::Declared::undeclared))]
 fn compile_one(
     alloc: Global,
-    quoting: Quoting,
+    dialect: Dialect,
     schema: &Schema,
     table: TableId,
 ) -> Result<(), Refusal>
-    ensures told { Gives (λ u. u) result (spec.table_compiled quoting schema.now table) }
+    ensures told { Gives (λ u. u) result (spec.table_compiled dialect schema.now table) }
     ensures cause { IfErr result IsOfCompiling }
 {
     if table.0 < schema.count() {
-        let _text = text_of_table(alloc, quoting, schema, table)?;
+        let _text = text_of_table(alloc, dialect, schema, table)?;
     }
     Ok(())
 }
@@ -99,15 +95,15 @@ fn compile_one(
 /// Whether each table has a text.
 fn compile_each(
     alloc: Global,
-    quoting: Quoting,
+    dialect: Dialect,
     schema: &Schema,
     tables: &[TableId],
 ) -> Result<(), Refusal>
-    ensures told { Gives (λ u. u) result (spec.each_compiled quoting schema.now tables.now) }
+    ensures told { Gives (λ u. u) result (spec.each_compiled dialect schema.now tables.now) }
     ensures cause { IfErr result IsOfCompiling }
 {
     for table in tables {
-        compile_one(alloc, quoting, schema, *table)?;
+        compile_one(alloc, dialect, schema, *table)?;
     }
     Ok(())
 }
@@ -122,5 +118,5 @@ pub fn compile_tables(alloc: Global, dialect: Dialect, schema: &Schema) -> Resul
     ensures cause { IfErr result IsOfCompiling }
 {
     let order = schema.tables_in_order(alloc)?;
-    compile_each(alloc, quoting_of(dialect), schema, order.as_slice())
+    compile_each(alloc, dialect, schema, order.as_slice())
 }

@@ -6,9 +6,9 @@ ghost use Rattle.std.specs.Fmt.{DisplaysOnOk};
 ghost use Rattle.printing.specs.Texts.{with_leading_separators, with_separators};
 ghost use Rattle.statement_lines.specs.StatementLines as spec;
 
-use base_core::{ListOf, Name, RowValues, Value};
+use base_core::{Dialect, ListOf, Name, RowValues, Value};
 use printing::{RowText, ValueText};
-use sql_text::{Compiled, Quoting};
+use sql_text::Compiled;
 use std::fmt;
 
 /// Writes a mark's name, `=` and its value.
@@ -82,22 +82,22 @@ impl<'a> fmt::Display for NamedValuesText<'a> {
 /// Writes the values of a text's marks in parentheses.
 #[derive(Drop)]
 struct ValuesText<'a> {
-    quoting: Quoting,
+    dialect: Dialect,
     compiled: &'a Compiled,
 }
 
 impl<'a> fmt::Display for ValuesText<'a> {
-    ghost output = { λ v. Some (spec.values_text v.quoting v.compiled.now) };
+    ghost output = { λ v. Some (spec.values_text v.dialect v.compiled.now) };
 
     fn fmt<W: fmt::Write>(&self, f: &mut fmt::Formatter<W>) -> fmt::Result {
         let values = &self.compiled.values;
-        match self.quoting {
-            Quoting::Postgresql => {
+        match self.dialect {
+            Dialect::Postgresql => {
                 let names = &self.compiled.names;
                 let named = NamedValuesText { names, values };
                 write!(f, "{named}")
             }
-            Quoting::Sqlite | Quoting::Mysql => {
+            Dialect::Sqlite | Dialect::Mysql => {
                 let row = RowText(values);
                 write!(f, "{row}")
             }
@@ -109,21 +109,21 @@ impl<'a> fmt::Display for ValuesText<'a> {
 /// which are written before the values.
 #[derive(Drop)]
 pub(crate) struct StatementText<'a> {
-    pub quoting: Quoting,
+    pub dialect: Dialect,
     pub compiled: &'a Compiled,
 }
 
 impl<'a> fmt::Display for StatementText<'a> {
-    ghost output = { λ s. Some (spec.statement_text s.quoting s.compiled.now) };
+    ghost output = { λ s. Some (spec.statement_text s.dialect s.compiled.now) };
 
     fn fmt<W: fmt::Write>(&self, f: &mut fmt::Formatter<W>) -> fmt::Result {
-        let quoting = self.quoting;
+        let dialect = self.dialect;
         let compiled = self.compiled;
         f.write_str(compiled.text.get())?;
         if compiled.values.as_slice().is_empty() {
             return Ok(());
         }
-        let values = ValuesText { quoting, compiled };
+        let values = ValuesText { dialect, compiled };
         write!(f, "\npar> {values}")
     }
 }

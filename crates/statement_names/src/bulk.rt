@@ -1,7 +1,6 @@
 //! Names of bulk statements.
 
-ghost use Rattle.std.specs.Prelude.{◌≡◌, [], map, IfErr, IfOk};
-ghost use Rattle.base_core.specs.declared.refusal.Refusal.TheVariants.{Memory};
+ghost use Rattle.std.specs.Prelude.{◌≡◌, [], map, IfOk};
 ghost use Rattle.schema_core.specs.Catalog.{has_name};
 ghost use Rattle.statement_names.specs.BulkNames as spec;
 ghost use Rattle.script_names.specs.Faults.{TellsFirst};
@@ -11,12 +10,11 @@ use expr_types::{Bulk, Expr};
 use schema_core::{Schema, TableSpec};
 use script_names::{Scope, find_column, named_if_given, pair, table_named, unknown};
 use script_types::{Syn, SynBulk, SynSource};
-use std::alloc::Global;
+use std::alloc::{AllocError, Global};
 
-/// The table alone in scope, under its own name. The only refusal is `Memory`.
-fn scope_alone(alloc: Global, table: &Name) -> Result<Scope, Refusal>
-    ensures scope { IfOk result (λ scope. scope.items ≡ spec.scope_alone table.now) }
-    ensures cause { IfErr result (λ e. e ≡ Memory) }
+/// The table alone in scope, under its own name.
+fn scope_alone(alloc: Global, table: &Name) -> Result<Scope, AllocError>
+    ensures { IfOk result (λ scope. scope.items ≡ spec.scope_alone table.now) }
 {
     let source = SynSource {
         table: table.copied()?,

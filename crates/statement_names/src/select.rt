@@ -1,7 +1,6 @@
 //! Names of selects.
 
-ghost use Rattle.std.specs.Prelude.{◌≡◌, ◌∷◌, ◌++◌, [], IfErr, IfOk};
-ghost use Rattle.base_core.specs.declared.refusal.Refusal.TheVariants.{Memory};
+ghost use Rattle.std.specs.Prelude.{◌≡◌, ◌∷◌, ◌++◌, [], IfOk};
 ghost use Rattle.script_names.specs.Faults.{TellsFirst};
 ghost use Rattle.statement_names.specs.SelectNames as spec;
 
@@ -13,12 +12,11 @@ use script_names::{
     pairs_named,
 };
 use script_types::{SynJoin, SynSelect, SynSource};
-use std::alloc::Global;
+use std::alloc::{AllocError, Global};
 
-/// The sources in order, each behind its place. The only refusal is `Memory`.
-fn scope_written(alloc: Global, s: &SynSelect) -> Result<Scope, Refusal>
-    ensures scope { IfOk result (λ scope. scope.items ≡ spec.scope_written s.now) }
-    ensures cause { IfErr result (λ e. e ≡ Memory) }
+/// The sources in order, each behind its place.
+fn scope_written(alloc: Global, s: &SynSelect) -> Result<Scope, AllocError>
+    ensures { IfOk result (λ scope. scope.items ≡ spec.scope_written s.now) }
 {
     let mut scope = Vec::new(alloc);
     enter(&mut scope, &s.first)?;

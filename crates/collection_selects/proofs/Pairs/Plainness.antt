@@ -47,7 +47,7 @@ use Rattle.collection_selects.proofs.Pairs.Led.{all_stand, all_tied, behind, dec
 -- ---- columns and names
 
 -- columns of known kinds are there
-typed_there : (schema : Catalog) (sources : List Origin) (columns : List SourceColumn) (kinds : List Kind) → AreTyped schema sources columns kinds → AllByRecursion (IsColumn schema sources) columns
+pub typed_there : (schema : Catalog) (sources : List Origin) (columns : List SourceColumn) (kinds : List Kind) → AreTyped schema sources columns kinds → AllByRecursion (IsColumn schema sources) columns
 typed_there schema sources [] kinds h = tt
 typed_there schema sources (column ∷ columns) [] h = absurd h
 typed_there schema sources (column ∷ columns) (kind ∷ kinds) h = ((kind, h.0), typed_there schema sources columns kinds h.1)
@@ -111,7 +111,7 @@ module _ (mapped : Mapped) (relation : Relation) (far : TableKey) (has : HasHier
   lead_inside : Has own lead
   lead_inside = subst (Has own) (sym lead_member) keys.member.inside
 
-  leads : slice_get own placement.leading ≡ Some lead
+  pub leads : slice_get own placement.leading ≡ Some lead
   leads = rank_finds own lead lead_inside
 
   -- ---- the sources
@@ -161,7 +161,7 @@ module _ (mapped : Mapped) (relation : Relation) (far : TableKey) (has : HasHier
       let wide = typed_long mapped.schema both far_columns tied_kinds far_typed in
       equal_some key_of_lead far_columns (omega (arith, some, long)) (omega (arith, some, wide))
 
-  tied : AreTied mapped.schema (origin_of second ∷ []) (member_sources mapped relation far)
+  pub tied : AreTied mapped.schema (origin_of second ∷ []) (member_sources mapped relation far)
   tied = (
     lead_some,
     equal_stand mapped.schema both key_of_lead far_columns tied_kinds lead_typed far_typed,
@@ -197,7 +197,7 @@ module _ (mapped : Mapped) (relation : Relation) (far : TableKey) (has : HasHier
   abbrev owner_columns : List SourceColumn
   owner_columns = pair_columns mapped relation 0
 
-  owners_typed : AreTyped mapped.schema origins owner_columns owner_kinds
+  pub owners_typed : AreTyped mapped.schema origins owner_columns owner_kinds
   owners_typed = foreign_typed mapped origins 0 relation.foreign relation.class has keys.owner refl
 
   owners_some : 0 < length owner_columns

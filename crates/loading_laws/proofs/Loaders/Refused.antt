@@ -74,7 +74,7 @@ world_graph w = w.own.graph
 
 -- ---- rows and links
 
-refused_row : (mapped : Mapped) (class : ClassId) (row : List Value) (own : Loading) (e : Refusal) → (take_row mapped class row own).answer ≡ Err e → (take_row mapped class row own).after ≡ own
+pub refused_row : (mapped : Mapped) (class : ClassId) (row : List Value) (own : Loading) (e : Refusal) → (take_row mapped class row own).answer ≡ Err e → (take_row mapped class row own).after ≡ own
 unfolding take_row
 refused_row mapped class row own e is = by (row_object mapped class row own.graph) is
   where

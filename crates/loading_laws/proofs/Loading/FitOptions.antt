@@ -1,6 +1,7 @@
 -- Select-in loads leave an arena's objects that fit the mapping, over the same tables.
 use Rattle.std.proofs.Common.{◌≡◌, ℕ, ◌<◌, ◌&&◌, Bool, true, false, not, List, [], ◌∷◌, ◌++◌, drop, fold, is_none, length, map, Ok, if◌then◌else◌, refl, sym, subst, ◌∙◌, arith}
 use Rattle.std.specs.List.{All, AllByRecursion, flat_map, list_any}
+use Rattle.std.specs.declared.alloc.AllocError.{AllocError}
 use Rattle.std.proofs.lemmas.List.Elements.{All-drop, All-from_recursion, All-take, recursion_from_All}
 use Rattle.base_core.proofs.Lists.{every_append}
 use Rattle.base_core.specs.declared.ids.ClassId.{ClassId}
@@ -126,7 +127,7 @@ module _ (place : RelNo) (mapped : Mapped) (relation : Relation) (has : HasHiera
       let owners : List Owner = first ∷ more in
       let select : Select = batch_select mapped relation (keys_of owners) in
       let two = parted (read mapped.schema select) (λ (rows : List Row). on_own (fill_batch mapped relation place owners rows)) u tt v (record { answer = g.answer; leaves = g.leaves }) in
-      let plain = batch_plain mapped relation owners (Ok select) has related many (omega arith) (keyed_all mapped u.own.graph relation place owners owned) refl in
+      let plain = batch_plain {E = AllocError} mapped relation owners (Ok select) has related many (omega arith) (keyed_all mapped u.own.graph relation place owners owned) refl in
       let sent = sent_rows place mapped select u two.value two.between firm plain two.first in
       let of = batch_rows mapped relation owners select (Ok two.value) has related refl sent.0.kinds sent.0.given in
       let own = on_own_goes (fill_batch mapped relation place owners two.value) two.between tt v two.second in
@@ -284,7 +285,7 @@ module _ (mapped : Mapped) (class : ClassId) (less : IsClass mapped class) (obje
       by true is rest = (owner_tested mapped graph class object true made.0 (sym is) refl, rest)
       by false is rest = rest
 
-  all_owners : (graph : Graph) → AllByRecursion (IsObject graph) objects → All (IsOwnerOf mapped graph class) (owners_among mapped class graph objects)
+  pub all_owners : (graph : Graph) → AllByRecursion (IsObject graph) objects → All (IsOwnerOf mapped graph class) (owners_among mapped class graph objects)
   unfolding owners_among
   all_owners graph made = All-from_recursion (IsOwnerOf mapped graph class) (flat_map (if_owner mapped class graph) objects) (owners_there graph objects made)
 

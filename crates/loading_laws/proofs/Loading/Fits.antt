@@ -67,7 +67,7 @@ module _ (mapped : Mapped) (graph : Graph) (object : ObjId) (fit : IsFit mapped 
   old = object_at graph object
 
   -- the object's cells that are filled with what is of their kinds
-  fit_filled : (found : Found) → AreFoundFor old.class found mapped → IsFit mapped (with_filled graph object found)
+  pub fit_filled : (found : Found) → AreFoundFor (object_at graph object).class found mapped → IsFit mapped (with_filled graph object found)
   unfolding with_filled
   fit_filled found kinds =
       let new : Object = filled_object found old in

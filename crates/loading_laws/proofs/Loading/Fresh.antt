@@ -126,7 +126,7 @@ module _ (mapped : Mapped) (tables : held.Tables) where
 
 -- ---- places of columns
 
-find_passes : {A : Type 0} (test : A → Bool) (xs : List A) (x : A) → find test xs ≡ Some x → test x ≡ true
+pub find_passes : {A : Type 0} (test : A → Bool) (xs : List A) (x : A) → find test xs ≡ Some x → test x ≡ true
 find_passes test [] x e = absurd cc
 find_passes test (y ∷ xs) x e = by (test y) refl e (find_passes test xs x)
   where

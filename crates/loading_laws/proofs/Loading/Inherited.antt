@@ -85,6 +85,19 @@ module _ (tables : List TableSpec) (classes : Classes) (first : ClassId) (more r
 
 -- ---- classes of a mapping
 
+attribute_by : (mapped : Mapped) (above_line under_line rest : List ClassId) (class : ℕ) → has_class above_line class ≡ true → under_line ≡ above_line ++ rest → (attribute : Attribute)
+    → Has (attributes_on mapped.schema.tables mapped.classes above_line) attribute → Has (attributes_on mapped.schema.tables mapped.classes under_line) attribute
+attribute_by mapped [] under_line rest class own is attribute there = absurd cc
+attribute_by mapped (first ∷ more) under_line rest class own is attribute there =
+    subst (λ (line : List ClassId). Has (attributes_on mapped.schema.tables mapped.classes line) attribute) (sym is) (attribute_under mapped.schema.tables mapped.classes first more rest attribute there)
+
+-- a class under another has each attribute of it
+pub attribute_inherited : (mapped : Mapped) (class above : ClassId) → HasHierarchies mapped → IsClass mapped above → is_at_or_under mapped class above ≡ true → (attribute : Attribute)
+    → Has (attributes_of mapped above) attribute → Has (attributes_of mapped class) attribute
+attribute_inherited mapped class above has declared under attribute there =
+    let begins = has.lines.nested class.0 above under in
+    attribute_by mapped (line_of mapped.classes above.0) (line_of mapped.classes class.0) begins.0 above.0 (has.lines.own above.0 (subst (λ (n : ℕ). above.0 < n) (sym has.lined) declared)) begins.1 attribute there
+
 named_by : (mapped : Mapped) (above_line under_line rest : List ClassId) (class : ℕ) → has_class above_line class ≡ true → under_line ≡ above_line ++ rest → (table : TableId) (name : List ℕ)
     → has_attribute (attributes_on mapped.schema.tables mapped.classes above_line) table name ≡ true → has_attribute (attributes_on mapped.schema.tables mapped.classes under_line) table name ≡ true
 named_by mapped [] under_line rest class own is table name there = absurd cc

@@ -26,6 +26,7 @@ use Rattle.joined_rows.specs.Parts.{parts_of}
 use Rattle.object_parts.specs.declared.answers.Taken.{Taken}
 use Rattle.joined_rows.specs.Taking.{take_joined, take_members, take_one, take_owner, taken_with}
 use Rattle.load_queries.specs.Joined.{fill_options, fill_owners, fill_taken, load_joined, take_answers}
+use Rattle.load_queries.specs.Selectin.{load_objects, load_query, with_options}
 use Rattle.loading_laws.proofs.Wide.Levels.{unshifted}
 use Rattle.loading_laws.proofs.MainSelects.Rows.{row_same}
 
@@ -122,3 +123,9 @@ plain_load mapped query world none =
     ∙ alike_after (read mapped.schema query.select) (λ rows. on_own (take_answers mapped query.class (parts_of mapped query.class query.joined) rows)) (λ rows. on_own (take_objects mapped query.class rows)) world
     (λ rows now. own_same (take_answers mapped query.class (parts_of mapped query.class query.joined) rows) (take_objects mapped query.class rows) now
     (ap (λ (places : List RelNo). take_answers mapped query.class (parts_of mapped query.class places) rows now.own) none ∙ answers_same mapped query.class rows now.own))
+
+-- with the further options behind it
+pub plain_query : (mapped : Mapped) (query : ObjectQuery) (world : World) → query.joined ≡ [] → load_query mapped query world ≡ load_objects mapped query world
+unfolding load_query load_objects ◌>>=◌
+plain_query mapped query world none =
+    ap (λ (run : Run World (List ObjId)). continue_from run.events run.after run.answer (with_options mapped query)) (plain_load mapped query world none)

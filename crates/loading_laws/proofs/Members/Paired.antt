@@ -75,7 +75,7 @@ drop_front : (xs ys : Row) → drop (length xs) (xs ++ ys) ≡ ys
 drop_front [] ys = refl
 drop_front (x ∷ xs) ys = drop_front xs ys
 
-cut_front : (xs ys : Row) (n : ℕ) → length xs ≡ n → (first_values n (xs ++ ys) ≡ xs) × (drop n (xs ++ ys) ≡ ys)
+pub cut_front : (xs ys : Row) (n : ℕ) → length xs ≡ n → (first_values n (xs ++ ys) ≡ xs) × (drop n (xs ++ ys) ≡ ys)
 cut_front xs ys n long = (ap (λ (k : ℕ). first_values k (xs ++ ys)) (sym long) ∙ first_from [] xs ys 0 refl, ap (λ (k : ℕ). drop k (xs ++ ys)) (sym long) ∙ drop_front xs ys)
 
 -- lists of which each has the other's rows
@@ -91,7 +91,7 @@ have_same one other there back = λ row. by row (list_any (same_values row) one)
     by row false false p q = p ∙ sym q
 
 -- the condition that columns hold a key looks at these columns
-values_local : (mapped : Mapped) (scope : List TableId) (u v : SourceColumn → Value) (columns : List SourceColumn) (key : List Value) → ((column : SourceColumn) → IsInside mapped.schema scope column → u column ≡ v column)
+pub values_local : (mapped : Mapped) (scope : List TableId) (u v : SourceColumn → Value) (columns : List SourceColumn) (key : List Value) → ((column : SourceColumn) → IsInside mapped.schema scope column → u column ≡ v column)
     → AllByRecursion (Fit mapped.schema scope) (has_values columns key) → equals_key (map u columns) key ≡ equals_key (map v columns) key
 values_local mapped scope u v [] key same fit = refl
 values_local mapped scope u v (column ∷ columns) [] same fit = refl

@@ -49,7 +49,7 @@ use Rattle.loading_laws.proofs.TiedRows.Options.{parts_tied, tied_parts}
 use Rattle.loading_laws.proofs.TiedRows.Owners.{IsOwner, StandsFirst, legal_rank}
 use Rattle.loading_laws.proofs.TiedRows.Sources.{parts_fit}
 
-contained_has : {A : Type 0} (xs : List A) (x : A) → Contains xs x → Has xs x
+pub contained_has : {A : Type 0} (xs : List A) (x : A) → Contains xs x → Has xs x
 contained_has xs x there = subst (Has xs) there.2 (has_at xs there.0 (slice_index_or xs there.0 x) (slice_get-get_or xs there.0 x there.1))
 
 -- ---- the joins of a class's own tables
@@ -62,7 +62,7 @@ module _ (mapped : Mapped) (class : ClassId) (tables : Tables) (held : AreRows m
       sym test.2 ∙ sym (ap is_true test.1) ∙ h
 
   -- rows that inner joins over equal columns put together meet the ties
-  joins_meet : (ties : List Tie) (origins : List Origin) (rows others : List Row) (more : List Joined) → AreTied mapped.schema origins (map joined_where ties) → AreWideIn mapped.schema (map table_of origins) rows
+  pub joins_meet : (ties : List Tie) (origins : List Origin) (rows others : List Row) (more : List Joined) → AreTied mapped.schema origins (map joined_where ties) → AreWideIn mapped.schema (map table_of origins) rows
       → AreBehind mapped.schema tables rows (map inner_joined (map joined_where ties) ++ more) others → EachPlaced (Meet tables (row_at (rows ++ others))) (length rows) ties
   joins_meet [] origins rows others more tied wide behind = tt
   joins_meet (tie ∷ ties) origins rows [] more tied wide behind = absurd behind

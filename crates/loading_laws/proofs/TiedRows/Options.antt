@@ -213,7 +213,7 @@ module _ (mapped : Mapped) (class : ClassId) (relation : Relation) (first : List
       attributes_wide = length-map attributes (cell (rows ++ now)) ∙ length-map (attributes_of mapped target) (attribute_column mapped target placement)
 
       -- the values from its place on
-      part_values : drop n out ≡ cells attributes (rows ++ now) ++ (cells keys (rows ++ now) ++ rest)
+      pub part_values : drop n out ≡ cells attributes (rows ++ now) ++ (cells keys (rows ++ now) ++ rest)
       part_values = ap (drop n) out_parts ∙ drop_first prefix (cells attributes (rows ++ now) ++ (cells keys (rows ++ now) ++ rest)) n long
 
       pub part_own : take (width_of mapped target) (drop n out) ≡ member_at mapped class relation first tables option held (rows ++ now)
@@ -254,7 +254,7 @@ module _ (mapped : Mapped) (read : KeyReader) (class : ClassId) (tables : Tables
   relation_there : (place : RelNo) → IsPlace place → slice_get (relations_of mapped class) place.0 ≡ Some (relation_of mapped class place)
   relation_there place inside = slice_get-get_or (relations_of mapped class) place.0 no_relation inside
 
-  option_at : (place : RelNo) → IsPlace place → (first : List Origin) → StandsFirst mapped class first → IsOption mapped class (relation_of mapped class place) first
+  pub option_at : (place : RelNo) → IsPlace place → (first : List Origin) → StandsFirst mapped class first → IsOption mapped class (relation_of mapped class place) first
   option_at place inside first at_first =
       let one : IsRelated mapped (relation_of mapped class place) = related.each class at_first.is place.0 no_relation inside in
       record {
@@ -286,7 +286,7 @@ module _ (mapped : Mapped) (read : KeyReader) (class : ClassId) (tables : Tables
   }
 
   -- further sources behind leave the class's tables first
-  first_more : (first added : List Origin) → StandsFirst mapped class first → StandsFirst mapped class (first ++ added)
+  pub first_more : (first added : List Origin) → StandsFirst mapped class first → StandsFirst mapped class (first ++ added)
   first_more first added at_first = record {
     has = at_first.has;
     is = at_first.is;
@@ -299,10 +299,10 @@ module _ (mapped : Mapped) (read : KeyReader) (class : ClassId) (tables : Tables
   IsTied part all out = Has (tied_at mapped read class part tables all own) (own_values mapped part.target (values_from part out))
 
   -- what the options read behind others
-  abbrev read_all : List RelNo → ℕ → List Row → Row → Row
+  abbrev pub read_all : List RelNo → ℕ → List Row → Row → Row
   read_all places count rows prefix = prefix ++ cells (options_columns mapped class count places) rows
 
-  abbrev AreBehind : List RelNo → ℕ → List Row → List Row → Type 0
+  abbrev pub AreBehind : List RelNo → ℕ → List Row → List Row → Type 0
   AreBehind places count rows more = Has (partners mapped.schema tables (options_sources mapped class count places) rows) more
 
   -- the row of one option and of those behind it
@@ -313,39 +313,39 @@ module _ (mapped : Mapped) (read : KeyReader) (class : ClassId) (tables : Tables
     abbrev sources : List Further
     sources = option_sources mapped class relation (length first)
 
-    abbrev columns : List SourceColumn
+    abbrev pub columns : List SourceColumn
     columns = option_columns mapped relation.target (target_placement mapped relation (length first))
 
     abbrev next : ℕ
     next = length first + length sources
 
-    option : IsOption mapped class relation first
+    pub option : IsOption mapped class relation first
     option = option_at place inside first at_first
 
-    abbrev behind : List Origin
+    abbrev pub behind : List Origin
     behind = first ++ added mapped class relation first tables option held rows owner.wide
 
-    behind_long : length behind ≡ next
+    pub behind_long : length behind ≡ next
     behind_long = first_long mapped class relation first tables option held rows owner.wide
 
     module _ (now : List Row) (there : Has (partners mapped.schema tables sources rows) now) where
-      next_owner : IsOwner mapped class behind tables own (rows ++ now)
+      pub next_owner : IsOwner mapped class behind tables own (rows ++ now)
       next_owner = owner_more mapped class first at_first tables own rows now (added mapped class relation first tables option held rows owner.wide) owner (wide_more mapped class relation first tables option held rows owner.wide now there)
 
       -- the rows of this option and of those behind it
-      out_is : (prefix : Row) (others : List Row) → read_all (place ∷ places) (length first) (rows ++ (now ++ others)) prefix
+      pub out_is : (prefix : Row) (others : List Row) → read_all (place ∷ places) (length first) (rows ++ (now ++ others)) prefix
           ≡ prefix ++ (cells columns ((rows ++ now) ++ others) ++ cells (options_columns mapped class next places) ((rows ++ now) ++ others))
       out_is prefix others =
           ap (λ (all : List Row). read_all (place ∷ places) (length first) all prefix) (sym (append_assoc rows now others))
           ∙ ap (λ (row : Row). prefix ++ row) (map-append (cell ((rows ++ now) ++ others)) columns (options_columns mapped class next places))
 
-      out_next : (prefix : Row) (others : List Row)
+      pub out_next : (prefix : Row) (others : List Row)
           → read_all (place ∷ places) (length first) (rows ++ (now ++ others)) prefix ≡ read_all places (length behind) ((rows ++ now) ++ others) (prefix ++ cells columns ((rows ++ now) ++ others))
       out_next prefix others =
           out_is prefix others ∙ sym (append_assoc prefix (cells columns ((rows ++ now) ++ others)) (cells (options_columns mapped class next places) ((rows ++ now) ++ others)))
           ∙ ap (λ (count : ℕ). read_all places count ((rows ++ now) ++ others) (prefix ++ cells columns ((rows ++ now) ++ others))) (sym behind_long)
 
-      prefix_long : (prefix : Row) (all : List Row) → length prefix ≡ n → length (prefix ++ cells columns all) ≡ n + option_width mapped relation.target
+      pub prefix_long : (prefix : Row) (all : List Row) → length prefix ≡ n → length (prefix ++ cells columns all) ≡ n + option_width mapped relation.target
       prefix_long prefix all long =
           let both = length-append prefix (cells columns all) in
           let read_long = length-map columns (cell all) in
@@ -365,7 +365,7 @@ module _ (mapped : Mapped) (read : KeyReader) (class : ClassId) (tables : Tables
           subst (Has (tied_at mapped read class (part_at mapped class place n) tables all own)) (sym (part_own mapped class relation first tables option held rows owner.wide now there place n prefix rest long others)) tied)
 
     -- the partners of this option, and those behind each
-    split : (more : List Row) → AreBehind (place ∷ places) (length first) rows more
+    pub split : (more : List Row) → AreBehind (place ∷ places) (length first) rows more
         → (now : List Row) × Has (partners mapped.schema tables sources rows) now × ((others : List Row) × AreBehind places next (rows ++ now) others × (now ++ others ≡ more))
     split more there =
         let all = partners_append mapped.schema tables sources (options_sources mapped class next places) rows in

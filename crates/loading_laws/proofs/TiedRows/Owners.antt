@@ -51,7 +51,7 @@ none_null f [] known = refl
 none_null f (x ∷ xs) known = ap (λ (b : Bool). b || has_null (map f xs)) (known x (inl refl)) ∙ none_null f xs (λ y there. known y (inr there))
 
 -- each cell of a row that fits its columns fits its own
-cell_fits : (columns : List ColumnSpec) (row : Row) (i : ℕ) (column : ColumnSpec) → pointwise fits columns row ≡ true → slice_get columns i ≡ Some column → (v : Value) × (slice_get row i ≡ Some v) × (fits column v ≡ true)
+pub cell_fits : (columns : List ColumnSpec) (row : Row) (i : ℕ) (column : ColumnSpec) → pointwise fits columns row ≡ true → slice_get columns i ≡ Some column → (v : Value) × (slice_get row i ≡ Some v) × (fits column v ≡ true)
 cell_fits [] row i column h at = absurd cc
 cell_fits (first ∷ columns) [] i column h at = absurd cc
 cell_fits (first ∷ columns) (v ∷ row) zero column h at =

@@ -88,7 +88,7 @@ column_lacks : (column : SourceColumn) → has_aggregate (column_of column) ≡ 
 unfolding has_aggregate
 column_lacks column = fold-Column Bool aggregate_level column.source column.column
 
-items_lack : (columns : List SourceColumn) → list_any has_aggregate (map (λ (item : Expr × Option (List ℕ)). item.0) (map item_of columns)) ≡ false
+pub items_lack : (columns : List SourceColumn) → list_any has_aggregate (map (λ (item : Expr × Option (List ℕ)). item.0) (map item_of columns)) ≡ false
 items_lack [] = refl
 items_lack (column ∷ columns) = ap (λ (b : Bool). b || list_any has_aggregate (map (λ (item : Expr × Option (List ℕ)). item.0) (map item_of columns))) (column_lacks column) ∙ items_lack columns
 
@@ -143,7 +143,7 @@ module _ (schema : Catalog) (tables : Tables) (wide_rows : HasWideRows schema ta
   same_where None fit = tt
   same_where (Some e) fit = same_at e fit
 
-where_itself : (tables : Tables) (filter : Option Expr) (rows : SourceRows) → SameWhere tables filter rows filter rows
+pub where_itself : (tables : Tables) (filter : Option Expr) (rows : SourceRows) → SameWhere tables filter rows filter rows
 where_itself tables None rows = tt
 where_itself tables (Some e) rows = refl
 

@@ -2,8 +2,8 @@
 use Rattle.std.proofs.Common.{◌≡◌, ℕ, Bool, true, false, not, ◌||◌, if◌then◌else◌, List, [], ◌∷◌, ◌++◌, drop, Option, refl, ap, sym, subst, ◌∙◌}
 use Rattle.script_types.specs.declared.command.Command.{Command}
 use Rattle.script_types.specs.declared.command.Command.TheVariants as c
-use Rattle.script_types.specs.declared.command.Dialect.{Dialect}
-use Rattle.script_types.specs.declared.command.Dialect.TheVariants.{Sqlite, Postgresql, Mysql}
+use Rattle.base_core.specs.declared.dialect.Dialect.{Dialect}
+use Rattle.base_core.specs.declared.dialect.Dialect.TheVariants.{Sqlite, Postgresql, Mysql}
 use Rattle.script_types.specs.declared.command.Term.{Term}
 use Rattle.script_types.specs.declared.select.SynSelect.{SynSelect}
 use Rattle.script_types.specs.declared.select.SynQuery.{SynQuery}

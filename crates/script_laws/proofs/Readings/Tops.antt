@@ -1,8 +1,8 @@
 -- Lines outside blocks are read as their forms say, where expressions are.
 use Rattle.std.proofs.Common.{◌≡◌, ℕ, ◌||◌, List, [], None, refl, sym, inr}
 use Rattle.script_types.specs.declared.command.Command.TheVariants as c
-use Rattle.script_types.specs.declared.command.Dialect.{Dialect}
-use Rattle.script_types.specs.declared.command.Dialect.TheVariants.{Sqlite, Postgresql, Mysql}
+use Rattle.base_core.specs.declared.dialect.Dialect.{Dialect}
+use Rattle.base_core.specs.declared.dialect.Dialect.TheVariants.{Sqlite, Postgresql, Mysql}
 use Rattle.script_types.specs.declared.command.Term.{Term}
 use Rattle.script_lex.specs.declared.kind.Kind.{Kind}
 use Rattle.script_lex.specs.declared.kind.Kind.TheVariants as k

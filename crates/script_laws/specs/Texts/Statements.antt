@@ -12,7 +12,7 @@ use Rattle.expr_types.specs.declared.select.Statement.TheVariants.{Select as of_
 use Rattle.sql_semantics.specs.DistinctNames.{has_columns, has_distinct_names}
 use Rattle.sql_semantics.specs.Plain.{IsPlainBulk, IsPlainSelect}
 use Rattle.sql_semantics.specs.PlainStatement.{IsFittingBulk, IsPlain}
-use Rattle.sql_text.specs.declared.names.Quoting.{Quoting}
+use Rattle.base_core.specs.declared.dialect.Dialect.{Dialect}
 use Rattle.sql_statements.specs.Texts.{text_of}
 use Rattle.script_laws.specs.Texts.Forms.Clauses.{ReadsSelect, ReadsBulk, ReadsRow}
 use Rattle.script_laws.specs.Texts.Forms.Form.{select_form, bulk_form, row_form}
@@ -21,20 +21,20 @@ use Rattle.script_laws.specs.Texts.Forms.Read.{ReadsStatement}
 -- A text with its values is read as one plain select at most.
 abbrev pub IsOneSelect : Type 0
 IsOneSelect =
-    (quoting : Quoting) (schema : Catalog) (text : List ℕ) (values : List Value) (it other : Select) → IsTrue (has_distinct_names schema) → IsPlainSelect schema it → IsPlainSelect schema other
-    → ReadsSelect quoting text values (select_form quoting schema it) → ReadsSelect quoting text values (select_form quoting schema other) → it ≡ other
+    (dialect : Dialect) (schema : Catalog) (text : List ℕ) (values : List Value) (it other : Select) → IsTrue (has_distinct_names schema) → IsPlainSelect schema it → IsPlainSelect schema other
+    → ReadsSelect dialect text values (select_form dialect schema it) → ReadsSelect dialect text values (select_form dialect schema other) → it ≡ other
 
 -- A text with its values is read as one bulk statement at most; it may name a column twice, or write a key.
 abbrev pub IsOneBulk : Type 0
 IsOneBulk =
-    (quoting : Quoting) (schema : Catalog) (text : List ℕ) (values : List Value) (it other : Bulk) → IsTrue (has_distinct_names schema) → IsFittingBulk schema it → IsFittingBulk schema other
-    → ReadsBulk quoting text values (bulk_form quoting schema it) → ReadsBulk quoting text values (bulk_form quoting schema other) → it ≡ other
+    (dialect : Dialect) (schema : Catalog) (text : List ℕ) (values : List Value) (it other : Bulk) → IsTrue (has_distinct_names schema) → IsFittingBulk schema it → IsFittingBulk schema other
+    → ReadsBulk dialect text values (bulk_form dialect schema it) → ReadsBulk dialect text values (bulk_form dialect schema other) → it ≡ other
 
 -- A text with its values is read as one statement on rows at most. New rows of a table without columns would all have one text.
 abbrev pub IsOneRow : Type 0
 IsOneRow =
-    (quoting : Quoting) (schema : Catalog) (text : List ℕ) (values : List Value) (it other : RowStmt) → IsTrue (has_distinct_names schema) → IsTrue (has_columns schema) → IsWellFormed schema it
-    → IsWellFormed schema other → ReadsRow quoting text values (row_form quoting schema it) → ReadsRow quoting text values (row_form quoting schema other) → it ≡ other
+    (dialect : Dialect) (schema : Catalog) (text : List ℕ) (values : List Value) (it other : RowStmt) → IsTrue (has_distinct_names schema) → IsTrue (has_columns schema) → IsWellFormed schema it
+    → IsWellFormed schema other → ReadsRow dialect text values (row_form dialect schema it) → ReadsRow dialect text values (row_form dialect schema other) → it ≡ other
 
 -- both are selects, both bulk statements, or both statements on rows
 abbrev pub AreOfOneKind : Statement → Statement → Type 0
@@ -46,14 +46,14 @@ AreOfOneKind it other = ⊥
 -- Under these tables a text with its values is read as one plain statement of a kind at most.
 abbrev pub IsOneStatement : Catalog → Type 0
 IsOneStatement schema =
-    (quoting : Quoting) (text : List ℕ) (values : List Value) (it other : Statement) → IsPlain schema it → IsPlain schema other → AreOfOneKind it other
-    → ReadsStatement quoting schema text values it → ReadsStatement quoting schema text values other → it ≡ other
+    (dialect : Dialect) (text : List ℕ) (values : List Value) (it other : Statement) → IsPlain schema it → IsPlain schema other → AreOfOneKind it other
+    → ReadsStatement dialect schema text values it → ReadsStatement dialect schema text values other → it ≡ other
 
 -- So two that a dialect writes as one text with one list of values are one statement.
 abbrev pub TextsTellStatements : Catalog → Type 0
 TextsTellStatements schema =
-    (quoting : Quoting) (it other : Statement) → IsPlain schema it → IsPlain schema other → AreOfOneKind it other → (text_of quoting schema it).text ≡ (text_of quoting schema other).text
-    → (text_of quoting schema it).values ≡ (text_of quoting schema other).values → it ≡ other
+    (dialect : Dialect) (it other : Statement) → IsPlain schema it → IsPlain schema other → AreOfOneKind it other → (text_of dialect schema it).text ≡ (text_of dialect schema other).text
+    → (text_of dialect schema it).values ≡ (text_of dialect schema other).values → it ≡ other
 
 -- Declared tables have names of which no two are the same, and so have their columns, and each has a column.
 abbrev pub DeclaredNamesAreDistinct : Type 0

@@ -18,7 +18,7 @@ use Rattle.expr_types.specs.declared.select.Joined.{Joined}
 use Rattle.expr_types.specs.declared.select.Select.{Select}
 use Rattle.expr_types.specs.declared.select.Statement.{Statement}
 use Rattle.expr_types.specs.declared.select.Statement.TheVariants as statement
-use Rattle.sql_text.specs.declared.names.Quoting.{Quoting}
+use Rattle.base_core.specs.declared.dialect.Dialect.{Dialect}
 use Rattle.sql_statements.specs.Texts.{text_of}
 
 -- one value for each
@@ -79,5 +79,5 @@ without_values schema (statement.Row it) = statement.Row (without_cells schema i
 
 -- Two statements that differ only in values have one text in a dialect.
 abbrev pub ValuesAreInNoText : Type 0
-ValuesAreInNoText = (quoting : Quoting) (schema : Catalog) (one other : Statement) → without_values schema one ≡ without_values schema other
-    → (text_of quoting schema one).text ≡ (text_of quoting schema other).text
+ValuesAreInNoText = (dialect : Dialect) (schema : Catalog) (one other : Statement) → without_values schema one ≡ without_values schema other
+    → (text_of dialect schema one).text ≡ (text_of dialect schema other).text

@@ -8,8 +8,8 @@ use Rattle.schema_core.specs.declared.changes.RowChanges.{RowChanges}
 use Rattle.schema_core.specs.declared.statement.RowStmt.{RowStmt}
 use Rattle.schema_core.specs.Catalog.{Catalog}
 use Rattle.schema_core.specs.WellFormed.{IsWellFormed}
-use Rattle.plan_statements.specs.Fitting.{fits_schema}
-use Rattle.plan_statements.proofs.Tests.{fitting}
+use Rattle.schema_core.specs.WellFormedTest.{is_well_formed}
+use Rattle.schema_core.proofs.WellFormedTests.{formed}
 use Rattle.flush_plan.specs.Flushing.{Keys, keys_then, statement_sent, was_missing}
 use Rattle.keeper_core.specs.Programs.{each, give}
 use Rattle.keeper_core.specs.Beside.{on_store}
@@ -35,7 +35,7 @@ module _ (schema : Catalog) (rows : RowChanges) (P : World → Type 0) (writes :
   sent_keeps planned keys true is =
       let statement : RowStmt = statement_sent schema rows keys planned in
       keeps_then P (on_store with_notes (call.write schema statement)) (λ answered. keys_unless (was_missing schema rows planned answered) planned keys answered)
-      (writes statement (fitting schema statement (and_parts (is_of_rows schema rows planned) (fits_schema schema statement) is).1))
+      (writes statement (formed schema statement (and_parts (is_of_rows schema rows planned) (is_well_formed schema statement) is).1))
       (λ w answered p answers. known_keeps planned (was_missing schema rows planned answered) keys answered)
 
   one_keeps : (planned : Planned) (keys : Keys) → Keeps P (send_one schema rows planned keys)

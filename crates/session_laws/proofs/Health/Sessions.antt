@@ -22,7 +22,7 @@ use Rattle.savepoints.specs.Scopes.{scope_released}
 use Rattle.relations.specs.declared.calls.LinkCall.{LinkCall}
 use Rattle.relations.specs.declared.change.Change.{Change}
 use Rattle.relations.specs.declared.change.LinkPut.{LinkPut}
-use Rattle.relations.specs.Calls.{link_change}
+use Rattle.relations.specs.Calls.{child_of, link_change}
 use Rattle.session_parts.specs.Ends.{object_committed, object_left, object_unmarked}
 use Rattle.session_scopes.specs.Changes.{changed_unless, delete_fault, deletion_marked, value_put}
 use Rattle.session_scopes.specs.Making.{first_given_fault, made_unless, object_made, object_with}
@@ -30,7 +30,7 @@ use Rattle.session_scopes.specs.Scoping.{session_begun, session_closed, session_
 use Rattle.session_scopes.specs.SessionState.{SessionState, with_graph}
 use Rattle.session_objects.specs.Taking.{added_then, coming_objects, session_added, session_joined, session_taken, session_unmarked, taken_under}
 use Rattle.session_objects.proofs.TakingLemmas.{state_left}
-use Rattle.session_links.specs.Linking.{child_of, coming_along, session_by, session_changed, session_linked, session_orphaned, session_put}
+use Rattle.session_links.specs.Linking.{coming_along, session_by, session_changed, session_linked, session_orphaned, session_put}
 use Rattle.session_statements.specs.Rewriting.{expired_if, graph_reread, is_reread, reread_of, session_reread}
 use Rattle.session_acts.specs.Flush.{session_flushed}
 use Rattle.session_laws.specs.Sound.{EachObject, IsSettled}

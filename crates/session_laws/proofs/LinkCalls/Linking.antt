@@ -21,7 +21,7 @@ use Rattle.keeper_core.specs.Beside.{changes, on_own}
 use Rattle.relations.specs.declared.calls.LinkCall.{LinkCall}
 use Rattle.relations.specs.declared.change.Change.{Change}
 use Rattle.relations.specs.declared.change.LinkPut.{LinkPut}
-use Rattle.relations.specs.Calls.{end_of, link_change}
+use Rattle.relations.specs.Calls.{child_of, end_of, link_change}
 use Rattle.relations.specs.Keys.{IsEnd}
 use Rattle.relations.specs.Mirror.{with_orphan}
 use Rattle.relations.specs.Places.{IsPlaced, IsPutIn}
@@ -34,7 +34,7 @@ use Rattle.session_objects.specs.Conflicts.{conflict_fault, has_conflict}
 use Rattle.session_objects.specs.Taking.{AreOnce, coming_objects}
 use Rattle.session_objects.proofs.JoiningLemmas.{come_still, may_come, may_join}
 use Rattle.session_objects.proofs.OutsiderLemmas.{outsiders_once}
-use Rattle.session_links.specs.Linking.{all_with, brings_in, change_fault, child_of, coming_along, fault_by, session_by, session_changed, session_linked, session_orphaned, session_put, unread_fault}
+use Rattle.session_links.specs.Linking.{all_with, brings_in, change_fault, coming_along, fault_by, session_by, session_changed, session_linked, session_orphaned, session_put, unread_fault}
 use Rattle.session_links.specs.Relinked.{IsRelinked}
 use Rattle.session_links.specs.Reading.{link_read}
 use Rattle.session_links.specs.Steps.{change_inside, change_link, read_related}

@@ -10,14 +10,15 @@ use Rattle.class_mapping.proofs.Having.{true_false}
 use Rattle.object_arena.specs.declared.object.Link.{Link}
 use Rattle.object_arena.specs.declared.object.Link.TheVariants.{One}
 use Rattle.object_arena.specs.Graph.{is_among, object_at}
+use Rattle.relations.specs.declared.calls.LinkCall.TheVariants.{Append}
 use Rattle.relations.specs.Mirror.{has_member, is_of, is_unloaded, leads_elsewhere, link_at, members_in}
 use Rattle.object_parts.specs.Sides.{joined_by, left_by}
 use Rattle.relations.proofs.ChangeLemmas.{end_taken}
 use Rattle.session_laws.specs.Links.Links.{AppendAdds, Before, IsOfMember, RemoveTakesOut, is_link, is_link_of_end, leads_already, link_after_set, link_back, link_let_go, link_loaded, link_moved, link_paired, link_unpaired, old_parent_of, parent_left, relation_in}
 use Rattle.session_laws.proofs.Links.CollectionLemmas.{false_if, joined_member, left_no_member}
-use Rattle.session_laws.proofs.Links.MemberLemmas.{append_parts, append_tells, back_at, back_is, no_partner, remove_tells}
+use Rattle.session_laws.proofs.Links.MemberLemmas.{append_tells, back_at, back_is, no_partner, remove_tells}
 use Rattle.session_laws.proofs.Links.MirrorLemmas.{at_place, no_one, same_relation}
-use Rattle.session_laws.proofs.Links.SetLemmas.{has_link, is_link_itself}
+use Rattle.session_laws.proofs.Links.SetLemmas.{has_link, is_link_itself, was_changed}
 
 -- ---- an append
 
@@ -95,7 +96,7 @@ has_after before member of under elsewhere false false is without_table =
 pub append_adds : AppendAdds
 append_adds before member after is elsewhere =
     ap (λ (link : Option Link). is_among (members_in link) member) (append_tells before member after is before.object before.place is.of.link.object)
-    ∙ has_after before member is.of (end_taken before.graph before.mapped before.object (relation_in before).target (Some member) (append_parts before member after is.appended).0) elsewhere
+    ∙ has_after before member is.of (end_taken before.graph before.mapped before.object (relation_in before).target (Some member) (was_changed before (Append member) after is.appended).1) elsewhere
     (has_member before.graph before.object before.place member) (is_some (relation_in before).far) refl refl
 
 -- ---- a removal

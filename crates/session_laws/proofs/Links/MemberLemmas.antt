@@ -1,5 +1,5 @@
 -- What each link is after a member was appended to a collection, or was taken out of it.
-use Rattle.std.proofs.Common.{◌≡◌, Bool, true, false, not, ◌&&◌, Option, None, Some, Result, Ok, Err, is_some, ◌==◌, refl, sym, ap, subst, ◌∙◌, if◌then◌else◌}
+use Rattle.std.proofs.Common.{◌≡◌, Bool, true, false, not, ◌&&◌, Option, None, Some, Result, Ok, is_some, ◌==◌, refl, sym, ap, subst, ◌∙◌, if◌then◌else◌}
 use Rattle.std.specs.Option.{option_map}
 use Rattle.std.proofs.lemmas.Option.{get_or_from_slice_get}
 use Rattle.base_core.specs.declared.ids.ObjId.{ObjId}
@@ -14,14 +14,17 @@ use Rattle.object_arena.specs.declared.object.Link.{Link}
 use Rattle.object_arena.specs.declared.object.Link.TheVariants.{One}
 use Rattle.object_arena.specs.Graph.{Graph, IsObject, object_at}
 use Rattle.object_arena.specs.Fit.{no_relation}
-use Rattle.relations.specs.Mirror.{append, append_by, append_new, end_fault, has_member, is_of, join_change, leads_elsewhere, link_at, orphan_by, put_to_end, put_without_member, remove, remove_change, remove_member, set_change, with_change}
+use Rattle.relations.specs.declared.calls.LinkCall.TheVariants.{Append, Remove}
+use Rattle.relations.specs.declared.change.Change.{Change}
+use Rattle.relations.specs.Calls.{lacks_member, links_set_by, no_change, remove}
+use Rattle.relations.specs.Mirror.{has_member, is_of, join_change, leads_elsewhere, link_at, orphan_by, put_to_end, put_without_member, remove_change, set_change, with_change}
 use Rattle.relations.specs.Parents.{old_parent}
 use Rattle.object_parts.specs.Sides.{joined_by, left_by}
 use Rattle.relations.proofs.ChangeLemmas.{end_taken, partner_of_many}
 use Rattle.session_laws.specs.Links.Links.{AppendKeepsRest, AppendMarksOrphans, AppendTells, Before, IsAppended, IsLinkOf, IsOfMember, IsTakenOut, RemoveKeepsRest, RemoveMarksOrphans, RemoveTells, is_link, link_after_append, link_after_remove, link_after_set, link_back, link_let_go, link_paired, link_unpaired, orphan_after_append, orphan_after_remove, orphan_after_set, relation_in, rest_of}
 use Rattle.session_laws.proofs.Links.ReadLemmas.{changed_read, changed_rest, goes_by, mark_over, none_over, over_by, put_by, put_over}
 use Rattle.session_laws.proofs.Links.MirrorLemmas.{at_place}
-use Rattle.session_laws.proofs.Links.SetLemmas.{fault_none, ok_graph, refused_ok, set_to_is, set_to_read, set_to_rest}
+use Rattle.session_laws.proofs.Links.SetLemmas.{links_set_is, ok_change, set_to_read, set_to_rest, told_unless, was_changed}
 
 -- ---- the member's link leads back
 
@@ -81,44 +84,47 @@ module _ (before : Before) (member : ObjId) where
   -- ---- an append
 
   paired : (other : ObjId) (next : RelNo) → IsObject graph owner → IsObject graph member → IsObject graph other
-      → link_at (with_change graph owner (join_change graph owner before.place relation member)) other next ≡ link_paired before member other next (link_at graph other next)
+      → link_at (with_change graph member (join_change graph owner before.place relation member)) other next ≡ link_paired before member other next (link_at graph other next)
   paired other next made there at =
-      changed_read graph owner (join_change graph owner before.place relation member) other next made tt
+      changed_read graph member (join_change graph owner before.place relation member) other next there tt
       (goes_by graph owner before.place member_joins made) (goes_by graph member relation.partner owner_joins there) at
       ∙ two_over graph member relation.partner owner_joins owner before.place member_joins other next
 
-  set_back : (after : Graph) (other : ObjId) (next : RelNo) → IsOfMember before member → is_of graph before.mapped relation.target member ≡ true → IsObject graph other
-      → (partner : Option Relation) → partner_of before.mapped relation ≡ partner → append_by graph before.mapped owner relation.partner member partner ≡ Ok (tt, after)
-      → link_at after other next ≡ link_after_set (link_back before member) (Some owner) other next
-  set_back after other next of under at None none h = no_partner before of.link none
-  set_back after other next of under at (Some partner) some h =
+  -- the member's link was set to the owner
+  set_back_is : (after : Graph) (change : Change) → IsOfMember before member → is_of graph before.mapped relation.target member ≡ true → (partner : Option Relation) → partner_of before.mapped relation ≡ partner
+      → links_set_by graph before.mapped owner relation.partner member partner ≡ Ok change → after ≡ with_change graph member change
+      → after ≡ with_change graph member (set_change graph before.mapped member relation.partner (relation_in (link_back before member)) (old_parent graph before.mapped member relation.partner (relation_in (link_back before member))) (Some owner))
+  set_back_is after change of under None none h is = no_partner before of.link none
+  set_back_is after change of under (Some partner) some h is =
       let back = back_at before member partner of.link under some in
-      set_to_read (link_back before member) (Some owner) after other next of.link.fit of.made of.link.object at
-      (subst (λ (r : Relation). after ≡ with_change graph member (set_change graph before.mapped member relation.partner r (old_parent graph before.mapped member relation.partner r) (Some owner)))
+      subst (λ (r : Relation). after ≡ with_change graph member (set_change graph before.mapped member relation.partner r (old_parent graph before.mapped member relation.partner r) (Some owner)))
       (sym (back_is before member partner back.0))
-      (set_to_is graph before.mapped member relation.partner partner (Some owner) after h))
+      (is ∙ ap (with_change graph member) (links_set_is graph before.mapped member relation.partner partner (Some owner) change h))
 
-  append_read : (after : Graph) (other : ObjId) (next : RelNo) → IsOfMember before member → is_of graph before.mapped relation.target member ≡ true → IsObject graph other → (there far : Bool)
-      → (let answer : Result (Unit {0} × Graph) Refusal = if there then Ok (tt, graph) else if far then Ok (tt, with_change graph owner (join_change graph owner before.place relation member)) else append_by graph before.mapped owner relation.partner member (partner_of before.mapped relation) in answer ≡ Ok (tt, after))
+  -- no link changed
+  still : (change : Change) → change ≡ no_change → with_change graph member change ≡ graph
+  unfolding with_change
+  still change none = ap (with_change graph member) none
+
+  abbrev appended : Bool → Bool → Result Change Refusal
+  appended there far =
+      if there then Ok no_change else if far then Ok (join_change graph owner before.place relation member)
+      else links_set_by graph before.mapped owner relation.partner member (partner_of before.mapped relation)
+
+  append_read : (after : Graph) (change : Change) (other : ObjId) (next : RelNo) → IsOfMember before member → is_of graph before.mapped relation.target member ≡ true → IsObject graph other → (there far : Bool)
+      → appended there far ≡ Ok change → after ≡ with_change graph member change
       → link_at after other next ≡ (if there then link_at graph other next else if far then link_paired before member other next (link_at graph other next) else link_after_set (link_back before member) (Some owner) other next)
-  append_read after other next of under at true far h = ap (λ (g : Graph). link_at g other next) (sym (ok_graph graph after h))
-  append_read after other next of under at false true h =
-      ap (λ (g : Graph). link_at g other next) (sym (ok_graph (with_change graph owner (join_change graph owner before.place relation member)) after h))
+  append_read after change other next of under at true far h is = ap (λ (g : Graph). link_at g other next) (is ∙ still change (sym (ok_change no_change change h)))
+  append_read after change other next of under at false true h is =
+      ap (λ (g : Graph). link_at g other next) (is ∙ ap (with_change graph member) (sym (ok_change (join_change graph owner before.place relation member) change h)))
       ∙ paired other next of.link.object of.made at
-  append_read after other next of under at false false h = set_back after other next of under at (partner_of before.mapped relation) refl h
-
-  pub append_parts : (after : Graph) → append graph before.mapped owner before.place member ≡ Ok (tt, after)
-      → (end_fault graph before.mapped owner relation.target (Some member) ≡ None) × (append_new graph before.mapped owner before.place relation member ≡ Ok (tt, after))
-  unfolding append
-  append_parts after h = (
-    fault_none (end_fault graph before.mapped owner relation.target (Some member)) (append_new graph before.mapped owner before.place relation member) after h,
-    refused_ok (end_fault graph before.mapped owner relation.target (Some member)) (append_new graph before.mapped owner before.place relation member) after h,
-  )
+  append_read after change other next of under at false false h is =
+      set_to_read (link_back before member) (Some owner) after other next of.link.fit of.made of.link.object at (set_back_is after change of under (partner_of before.mapped relation) refl h is)
 
   pub append_is : (after : Graph) (other : ObjId) (next : RelNo) → IsAppended before member after → IsObject graph other → link_at after other next ≡ link_after_append before member other next
   append_is after other next is at =
-      let parts = append_parts after is.appended in
-      append_read after other next is.of (end_taken graph before.mapped owner relation.target (Some member) parts.0) at (has_member graph owner before.place member) (is_some relation.far) parts.1
+      let was = was_changed before (Append member) after is.appended in
+      append_read after was.0 other next is.of (end_taken graph before.mapped owner relation.target (Some member) was.1) at (has_member graph owner before.place member) (is_some relation.far) was.2 was.3
 
   -- ---- a removal
 
@@ -163,15 +169,12 @@ module _ (before : Before) (member : ObjId) where
   remove_read other next made there at true = unpaired other next made there at
   remove_read other next made there at false = let_go_read other next made there at (leads_elsewhere (link_at graph member relation.partner) owner)
 
-  taken : (b : Bool) (new after : Graph) → (let answer : Result (Unit {0} × Graph) Refusal = if b then Ok (tt, new) else Err (InvalidRequestError NotAMember) in answer ≡ Ok (tt, after)) → after ≡ new
-  taken true new after h = sym (ok_graph new after h)
-  taken false new after h = absurd cc
-
   remove_parts : (after : Graph) → remove graph before.mapped owner before.place member ≡ Ok (tt, after) → after ≡ with_change graph member (remove_change graph owner before.place relation member)
-  unfolding remove
   remove_parts after h =
-      taken (has_member graph owner before.place member) (with_change graph member (remove_change graph owner before.place relation member)) after
-      (refused_ok (end_fault graph before.mapped owner relation.target (Some member)) (remove_member graph owner before.place relation member) after h)
+      let was = was_changed before (Remove member) after h in
+      was.3
+      ∙ ap (with_change graph member)
+      (told_unless (lacks_member graph owner before.place member) (InvalidRequestError NotAMember) (remove_change graph owner before.place relation member) was.0 was.2)
 
   pub remove_is : (after : Graph) (other : ObjId) (next : RelNo) → IsTakenOut before member after → IsObject graph other → link_at after other next ≡ link_after_remove before member other next
   remove_is after other next is at =
@@ -183,31 +186,22 @@ module _ (before : Before) (member : ObjId) where
   abbrev Rest : Graph → ObjId → Bool → Type 0
   Rest after other orphan = (rest_of (object_at after other) ≡ rest_of (object_at graph other)) × ((object_at after other).orphan ≡ orphan)
 
-  set_back_rest : (after : Graph) (other : ObjId) → IsOfMember before member → is_of graph before.mapped relation.target member ≡ true → IsObject graph other
-      → (partner : Option Relation) → partner_of before.mapped relation ≡ partner → append_by graph before.mapped owner relation.partner member partner ≡ Ok (tt, after)
-      → Rest after other (orphan_after_set (link_back before member) (Some owner) other)
-  set_back_rest after other of under at None none h = no_partner before of.link none
-  set_back_rest after other of under at (Some partner) some h =
-      let back = back_at before member partner of.link under some in
-      set_to_rest (link_back before member) (Some owner) after other of.link.fit of.made of.link.object at
-      (subst (λ (r : Relation). after ≡ with_change graph member (set_change graph before.mapped member relation.partner r (old_parent graph before.mapped member relation.partner r) (Some owner)))
-      (sym (back_is before member partner back.0))
-      (set_to_is graph before.mapped member relation.partner partner (Some owner) after h))
-
-  append_rest : (after : Graph) (other : ObjId) → IsOfMember before member → is_of graph before.mapped relation.target member ≡ true → IsObject graph other → (there far : Bool)
-      → (let answer : Result (Unit {0} × Graph) Refusal = if there then Ok (tt, graph) else if far then Ok (tt, with_change graph owner (join_change graph owner before.place relation member)) else append_by graph before.mapped owner relation.partner member (partner_of before.mapped relation) in answer ≡ Ok (tt, after))
+  append_rest : (after : Graph) (change : Change) (other : ObjId) → IsOfMember before member → is_of graph before.mapped relation.target member ≡ true → IsObject graph other → (there far : Bool)
+      → appended there far ≡ Ok change → after ≡ with_change graph member change
       → Rest after other (if there then (object_at graph other).orphan else if far then (object_at graph other).orphan else orphan_after_set (link_back before member) (Some owner) other)
-  append_rest after other of under at true far h = subst (λ (g : Graph). Rest g other (object_at graph other).orphan) (ok_graph graph after h) (refl, refl)
-  append_rest after other of under at false true h =
-      subst (λ (g : Graph). Rest g other (object_at graph other).orphan) (ok_graph (with_change graph owner (join_change graph owner before.place relation member)) after h)
-      (changed_rest graph owner (join_change graph owner before.place relation member) other of.link.object tt
+  append_rest after change other of under at true far h is =
+      subst (λ (g : Graph). Rest g other (object_at graph other).orphan) (sym (is ∙ still change (sym (ok_change no_change change h)))) (refl, refl)
+  append_rest after change other of under at false true h is =
+      subst (λ (g : Graph). Rest g other (object_at graph other).orphan) (sym (is ∙ ap (with_change graph member) (sym (ok_change (join_change graph owner before.place relation member) change h))))
+      (changed_rest graph member (join_change graph owner before.place relation member) other of.made tt
       (goes_by graph owner before.place member_joins of.link.object) (goes_by graph member relation.partner owner_joins of.made) at)
-  append_rest after other of under at false false h = set_back_rest after other of under at (partner_of before.mapped relation) refl h
+  append_rest after change other of under at false false h is =
+      set_to_rest (link_back before member) (Some owner) after other of.link.fit of.made of.link.object at (set_back_is after change of under (partner_of before.mapped relation) refl h is)
 
   pub append_keeps : (after : Graph) (other : ObjId) → IsAppended before member after → IsObject graph other → Rest after other (orphan_after_append before member other)
   append_keeps after other is at =
-      let parts = append_parts after is.appended in
-      append_rest after other is.of (end_taken graph before.mapped owner relation.target (Some member) parts.0) at (has_member graph owner before.place member) (is_some relation.far) parts.1
+      let was = was_changed before (Append member) after is.appended in
+      append_rest after was.0 other is.of (end_taken graph before.mapped owner relation.target (Some member) was.1) at (has_member graph owner before.place member) (is_some relation.far) was.2 was.3
 
   mark_is : (far elsewhere orphans same orphan : Bool) → mark_over (if far then None else if elsewhere then None else orphan_by orphans None) same orphan ≡ (if same && (not far && (not elsewhere && orphans)) then true else orphan)
   mark_is true elsewhere orphans true orphan = refl

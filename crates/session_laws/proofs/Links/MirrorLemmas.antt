@@ -17,6 +17,7 @@ use Rattle.object_arena.specs.Graph.{Graph, IsObject, object_at}
 use Rattle.object_arena.specs.Fit.{IsFit, end_fits, link_fits, no_relation}
 use Rattle.object_arena.proofs.FitLemmas.{fit_links}
 use Rattle.relations.specs.Keys.{IsEnd}
+use Rattle.relations.specs.declared.calls.LinkCall.TheVariants.{Set}
 use Rattle.relations.specs.Mirror.{is_of, link_at, loaded_to}
 use Rattle.relations.specs.Parents.{IsMade, is_known_as, same_end}
 use Rattle.object_parts.specs.Sides.{joined_by, left_by}
@@ -28,7 +29,7 @@ use Rattle.relations.proofs.EndLemmas.{link_found}
 use Rattle.session_laws.specs.Links.Links.{Before, HasJoined, IsLinkOf, IsSetTo, LeadsTo, SetMirrors, has_in, is_link, is_link_of_end, leads_already, link_loaded, link_moved, old_parent_of, parent_left, relation_in}
 use Rattle.session_laws.proofs.Links.ReadLemmas.{one_object}
 use Rattle.session_laws.proofs.Links.CollectionLemmas.{eqb_turned, false_if, is_one, joined_has, left_lacks}
-use Rattle.session_laws.proofs.Links.SetLemmas.{has_link, is_link_itself, known_by, loaded_leads, not_refused, old_made, set_tells}
+use Rattle.session_laws.proofs.Links.SetLemmas.{has_link, is_link_itself, known_by, loaded_leads, old_made, set_tells, was_changed}
 
 -- ---- links of other forms are other links
 
@@ -166,7 +167,7 @@ has_at : (before : Before) (parent : Option ObjId) (after : Graph) → IsSetTo b
     → HasJoined (link_at before.graph end (relation_in before).partner) (link_at after end (relation_in before).partner) before.object
 has_at before parent after is end elsewhere same =
     let place : RelNo = (relation_in before).partner in
-    let there = parent_of before parent end same is.end (end_taken before.graph before.mapped before.object (relation_in before).target parent (not_refused before parent after is.set)) in
+    let there = parent_of before parent end same is.end (end_taken before.graph before.mapped before.object (relation_in before).target parent (was_changed before (Set parent) after is.set).1) in
     let partner = partner_at before end is.link there.1 in
     let less : place.0 < length (relations_of before.mapped (object_at before.graph end).class) = slice_get_within (relations_of before.mapped (object_at before.graph end).class) place.0 partner.0 partner.1 in
     let found = has_link before.mapped before.graph end place is.link.fit there.0 less in

@@ -24,7 +24,10 @@ use Rattle.object_arena.specs.Fit.{IsFit, link_fits}
 use Rattle.object_arena.proofs.FitLemmas.{fit_links}
 use Rattle.object_arena.proofs.HolderLemmas.{place_holds}
 use Rattle.relations.specs.Keys.{IsEnd, changes_key}
-use Rattle.relations.specs.Mirror.{end_fault, has_orphans, is_of, joined_to, left_behind, link_at, loaded_to, orphan_by, put_as_loaded, put_to_end, refused_or, set_change, set_one, set_to, with_change}
+use Rattle.relations.specs.declared.calls.LinkCall.{LinkCall}
+use Rattle.relations.specs.declared.calls.LinkCall.TheVariants.{Set}
+use Rattle.relations.specs.Calls.{changed_by, child_of, end_of, link_change, link_changed, links_by, links_set, set_one, unless_fault}
+use Rattle.relations.specs.Mirror.{end_fault, has_orphans, is_of, joined_to, left_behind, link_at, loaded_to, orphan_by, put_as_loaded, put_to_end, set_change, with_change}
 use Rattle.relations.specs.Parents.{IsMade, is_expired_in, is_known_as, known_or_not, old_parent, parent_by_cells, parent_by_link, same_end, values_in}
 use Rattle.object_parts.specs.Sides.{joined_by, left_by}
 use Rattle.relations.specs.declared.change.Change.{Change}
@@ -34,7 +37,7 @@ use Rattle.relations.proofs.EndLemmas.{led_made, roots_long}
 use Rattle.session_laws.specs.Links.Links.{Before, LeadsTo, SetKeepsRest, SetMarksOrphans, SetTells, is_link, is_link_of_end, leads_already, link_after_set, link_loaded, old_parent_of, orphan_after_set, parent_left, relation_in, rest_of}
 use Rattle.session_laws.proofs.Links.ReadLemmas.{Goes, changed_read, changed_rest, goes_by, mark_over, none_over, over_by, put_over}
 
--- ---- the graph after a link was set
+-- ---- the change of a link that was found
 
 pub ok_graph : (x y : Graph) → (let one : Result (Unit {0} × Graph) Refusal = Ok (tt, x) in one ≡ Ok (tt, y)) → x ≡ y
 ok_graph x y h = ap (λ (p : Unit {0} × Graph). p.1) (inside (tt, x) (tt, y) h)
@@ -42,38 +45,47 @@ ok_graph x y h = ap (λ (p : Unit {0} × Graph). p.1) (inside (tt, x) (tt, y) h)
     inside : (a b : Unit {0} × Graph) → (let one : Result (Unit {0} × Graph) Refusal = Ok a in one ≡ Ok b) → a ≡ b
     inside a b e = cc
 
-pub refused_ok : (fault : Option Refusal) (answer : Result (Unit {0} × Graph) Refusal) (new : Graph) → refused_or fault answer ≡ Ok (tt, new) → answer ≡ Ok (tt, new)
-refused_ok (Some fault) answer new h = absurd cc
-refused_ok None answer new h = h
+pub ok_change : (a b : Change) → (let one : Result Change Refusal = Ok a in one ≡ Ok b) → a ≡ b
+ok_change a b e = cc
 
-unless_ok : (b : Bool) (graph new : Graph) → (let answer : Result (Unit {0} × Graph) Refusal = if b then Err (InvalidRequestError KeyChange) else Ok (tt, graph) in answer ≡ Ok (tt, new)) → new ≡ graph
-unless_ok true graph new h = absurd cc
-unless_ok false graph new h = sym (ok_graph graph new h)
+-- a change that is told unless it is refused
+pub told_unless : (b : Bool) (e : Refusal) (told change : Change) → (let answer : Result Change Refusal = if b then Err e else Ok told in answer ≡ Ok change) → change ≡ told
+told_unless true e told change h = absurd cc
+told_unless false e told change h = sym (ok_change told change h)
 
-pub set_to_is : (graph : Graph) (mapped : Mapped) (child : ObjId) (place : RelNo) (relation : Relation) (parent : Option ObjId) (new : Graph) → set_to graph mapped child place relation parent ≡ Ok (tt, new)
-    → new ≡ with_change graph child (set_change graph mapped child place relation (old_parent graph mapped child place relation) parent)
-unfolding set_to
-set_to_is graph mapped child place relation parent new h =
-    unless_ok (changes_key graph mapped child relation (old_parent graph mapped child place relation) parent)
-    (with_change graph child (set_change graph mapped child place relation (old_parent graph mapped child place relation) parent)) new h
+changed_ok : (graph : Graph) (child : ObjId) (found : Result Change Refusal) (after : Graph) → changed_by graph child found ≡ Ok (tt, after) → (change : Change) × (found ≡ Ok change) × (after ≡ with_change graph child change)
+changed_ok graph child (Err fault) after h = absurd cc
+changed_ok graph child (Ok change) after h = (change, refl, sym (ok_graph (with_change graph child change) after h))
+
+fault_ok : (fault : Option Refusal) (found : Result Change Refusal) (change : Change) → unless_fault fault found ≡ Ok change → (fault ≡ None) × (found ≡ Ok change)
+fault_ok (Some fault) found change h = absurd cc
+fault_ok None found change h = (refl, h)
+
+-- where a link was changed both sides could take part, and the links that changed were put in
+pub was_changed : (before : Before) (call : LinkCall) (after : Graph) → link_changed before.graph before.mapped before.object before.place call ≡ Ok (tt, after)
+    → (change : Change) × (end_fault before.graph before.mapped before.object (relation_in before).target (end_of call) ≡ None)
+    × (links_by before.graph before.mapped before.object before.place (relation_in before) call ≡ Ok change) × (after ≡ with_change before.graph (child_of before.object call) change)
+unfolding link_change
+was_changed before call after h =
+    let found = changed_ok before.graph (child_of before.object call)
+    (unless_fault (end_fault before.graph before.mapped before.object (relation_in before).target (end_of call)) (links_by before.graph before.mapped before.object before.place (relation_in before) call)) after h in
+    let parts = fault_ok (end_fault before.graph before.mapped before.object (relation_in before).target (end_of call)) (links_by before.graph before.mapped before.object before.place (relation_in before) call) found.0 found.1 in
+    (found.0, parts.0, parts.1, found.2)
+
+-- ---- the graph after a link was set
+
+pub links_set_is : (graph : Graph) (mapped : Mapped) (child : ObjId) (place : RelNo) (relation : Relation) (parent : Option ObjId) (change : Change) → links_set graph mapped child place relation parent ≡ Ok change
+    → change ≡ set_change graph mapped child place relation (old_parent graph mapped child place relation) parent
+unfolding links_set
+links_set_is graph mapped child place relation parent change h =
+    told_unless (changes_key graph mapped child relation (old_parent graph mapped child place relation) parent) (InvalidRequestError KeyChange)
+    (set_change graph mapped child place relation (old_parent graph mapped child place relation) parent) change h
 
 set_is : (before : Before) (parent : Option ObjId) (after : Graph) → set_one before.graph before.mapped before.object before.place parent ≡ Ok (tt, after)
     → after ≡ with_change before.graph before.object (set_change before.graph before.mapped before.object before.place (relation_in before) (old_parent_of before) parent)
-unfolding set_one
 set_is before parent after h =
-    set_to_is before.graph before.mapped before.object before.place (relation_in before) parent after
-    (refused_ok (end_fault before.graph before.mapped before.object (relation_in before).target parent) (set_to before.graph before.mapped before.object before.place (relation_in before) parent) after h)
-
-pub fault_none : (fault : Option Refusal) (answer : Result (Unit {0} × Graph) Refusal) (new : Graph) → refused_or fault answer ≡ Ok (tt, new) → fault ≡ None
-fault_none (Some fault) answer new h = absurd cc
-fault_none None answer new h = refl
-
--- both sides can take part where a link was set
-pub not_refused : (before : Before) (parent : Option ObjId) (after : Graph) → set_one before.graph before.mapped before.object before.place parent ≡ Ok (tt, after)
-    → end_fault before.graph before.mapped before.object (relation_in before).target parent ≡ None
-unfolding set_one
-not_refused before parent after h =
-    fault_none (end_fault before.graph before.mapped before.object (relation_in before).target parent) (set_to before.graph before.mapped before.object before.place (relation_in before) parent) after h
+    let was = was_changed before (Set parent) after h in
+    was.3 ∙ ap (with_change before.graph before.object) (links_set_is before.graph before.mapped before.object before.place (relation_in before) parent was.0 was.2)
 
 -- ---- the old parent is an object of the graph
 

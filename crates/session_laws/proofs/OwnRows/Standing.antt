@@ -30,7 +30,7 @@ use Rattle.class_mapping.specs.Mapped.{Mapped, attribute_of, attributes_of, no_a
 use Rattle.class_mapping.specs.Related.{AreRelated, IsRelated}
 use Rattle.class_mapping.proofs.Having.{Has, all_from, any_has, from_filter, has_filter, has_map, has_numbered, some_of, true_false}
 use Rattle.class_mapping.proofs.Lists.{or_none}
-use Rattle.class_mapping.proofs.PairedLemmas.{paired_seen}
+use Rattle.class_mapping.proofs.PairedLemmas.{has_pairs}
 use Rattle.class_mapping.proofs.RelatedKeys.{same_table}
 use Rattle.mapping_laws.specs.Hierarchies.{HasHierarchies, HasTables, name_in}
 use Rattle.mapping_laws.proofs.Tables.{unmapped_named}
@@ -69,7 +69,7 @@ use Rattle.session_laws.specs.OwnRows.{ObjectsHaveOwnRows, StandInTables}
 
 -- a configured mapping's classes stand in hierarchies
 pub hierarchies : (mapped : Mapped) → IsWellMapped mapped → HasHierarchies mapped
-hierarchies mapped well = record { lined = well.lined; lines = well.lines; valid = well.valid; paired = paired_seen mapped.schema mapped.classes mapped.configured mapped refl well.lined well.lines well.valid; declared = well.declared }
+hierarchies mapped well = record { lined = well.lined; lines = well.lines; valid = well.valid; paired = has_pairs mapped well.lined well.lines well.valid; declared = well.declared }
 
 same_object : (one other : ObjId) → (one.0 == other.0) ≡ true → one ≡ other
 same_object one other same = ap (λ (n : ℕ). let id : ObjId = record { 0 = n } in id) (eqb-true one.0 other.0 same)

@@ -20,8 +20,8 @@ use Rattle.schema_core.specs.Tables.{Tables, has_null, is_null, key_cells}
 use Rattle.schema_core.specs.WellFormed.{AreKeysOf, is_key, is_row, may_hold}
 use Rattle.schema_core.proofs.NewKeys.{keys_for}
 use Rattle.table_laws.proofs.Entries.{all_both, none_any}
-use Rattle.plan_statements.specs.Fitting.{are_alike, are_new_rows, are_some, are_wide_enough, fits_schema}
-use Rattle.plan_statements.proofs.Tests.{fitting}
+use Rattle.schema_core.specs.WellFormedTest.{are_alike, are_new_rows, are_some, are_wide_enough, is_well_formed}
+use Rattle.schema_core.proofs.WellFormedTests.{formed}
 use Rattle.flush_order.specs.Cells.{cells_cleared, first_cells, is_late, key_parts, new_at, no_row, table_at}
 use Rattle.flush_order.specs.Refers.{new_refers}
 use Rattle.flush_order.specs.Orders.{insert_order}
@@ -271,9 +271,9 @@ module _ (schema : Catalog) (changes : RowChanges) (fit : HasFitRows schema chan
       let run : List ℕ = place ∷ places in
       let planned : Planned = insert_run changes run in
       let one = sent_of schema changes sofar next planned sent in
-      let fits : fits_schema schema (statement_sent schema changes sofar.keys planned) ≡ true = (and_parts (is_of_rows schema changes planned) (fits_schema schema (statement_sent schema changes sofar.keys planned)) (run_sendable sofar.keys run is ready)).1 in
+      let fits : is_well_formed schema (statement_sent schema changes sofar.keys planned) ≡ true = (and_parts (is_of_rows schema changes planned) (is_well_formed schema (statement_sent schema changes sofar.keys planned)) (run_sendable sofar.keys run is ready)).1 in
       let are : AreKeysOf (spec_at place) (map (row_sent schema changes sofar.keys) run) one.answer.0 =
-      keys_for schema sofar.tables (statement_sent schema changes sofar.keys planned) one.answer.0 one.answer.1 one.done (fitting schema (statement_sent schema changes sofar.keys planned) fits) in
+      keys_for schema sofar.tables (statement_sent schema changes sofar.keys planned) one.answer.0 one.answer.1 one.done (formed schema (statement_sent schema changes sofar.keys planned) fits) in
       let same : AllByRecursion (λ other. spec_at other ≡ spec_at place) run = each_of (IsAlike (table_at changes place) (leaves_key schema changes place)) (λ other. spec_at other ≡ spec_at place) run (λ other it. ap (spec_of schema) it.at) is.1.alike in
       subst (λ (s : Sofar). AllByRecursion (IsKnown schema changes s.keys) (known ++ run)) (sym one.is)
       (keys_put (spec_at place) run (map (row_sent schema changes sofar.keys) run) one.answer.0 sofar.keys known same (mapped_long (row_sent schema changes sofar.keys) run) are was)

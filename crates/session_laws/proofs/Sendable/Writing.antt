@@ -17,7 +17,7 @@ use Rattle.schema_core.specs.declared.table.ColumnSpec.{ColumnSpec}
 use Rattle.schema_core.specs.declared.table.TableSpec.{TableSpec}
 use Rattle.schema_core.specs.Catalog.{Catalog, IsTable, spec_of}
 use Rattle.schema_core.specs.WellFormed.{are_cells, is_key, may_hold}
-use Rattle.plan_statements.specs.Fitting.{is_update_of}
+use Rattle.schema_core.specs.WellFormedTest.{is_update_of}
 use Rattle.flush_order.specs.Orders.{gone_at, gone_rows, no_gone, place_of_gone}
 use Rattle.flush_order.specs.Refers.{gone_key}
 use Rattle.flush_order.specs.Sorted.{Place, sorted_numbers}

@@ -23,7 +23,7 @@ use Rattle.keeper_core.specs.Store.{Store}
 use Rattle.relations.specs.declared.calls.LinkCall.{LinkCall}
 use Rattle.relations.specs.declared.change.Change.{Change}
 use Rattle.relations.specs.declared.change.LinkPut.{LinkPut}
-use Rattle.relations.specs.Calls.{link_change}
+use Rattle.relations.specs.Calls.{child_of, link_change}
 use Rattle.relations.specs.Mirror.{with_orphan}
 use Rattle.savepoints.specs.declared.scope.Scope.{Scope}
 use Rattle.savepoints.specs.Scopes.{begun_at, scope_released}
@@ -41,7 +41,7 @@ use Rattle.session_calls.proofs.Acting.{no_scope_open, some_scope_open}
 use Rattle.session_acts.specs.Savepoints.{begin_savepoint, check_handle, commit_transaction, commit_whole, enter_nested, handle_fault, limit_fault, release_handle, release_many, release_one}
 use Rattle.session_objects.specs.Steps.{add}
 use Rattle.session_objects.specs.Taking.{added_then, coming_objects, session_added, session_joined, session_taken, taken_under, unmarked}
-use Rattle.session_links.specs.Linking.{change_fault, child_of, coming_along, session_by, session_changed, session_linked, session_orphaned, session_put}
+use Rattle.session_links.specs.Linking.{change_fault, coming_along, session_by, session_changed, session_linked, session_orphaned, session_put}
 use Rattle.session_links.specs.Reading.{link_read}
 use Rattle.session_links.specs.Steps.{change_inside, change_link, read_related}
 use Rattle.session_statements.specs.Rewriting.{graph_reread}

@@ -16,13 +16,13 @@ use Rattle.object_arena.proofs.PartLemmas.{pointwise_set}
 use Rattle.relations.specs.declared.calls.LinkCall.{LinkCall}
 use Rattle.relations.specs.declared.change.Change.{Change}
 use Rattle.relations.specs.declared.change.LinkPut.{LinkPut}
-use Rattle.relations.specs.Calls.{link_change}
+use Rattle.relations.specs.Calls.{child_of, link_change}
 use Rattle.relations.specs.Fits.{ChangeFits, PutFits}
 use Rattle.relations.specs.Places.{IsPlaced, IsPutIn}
 use Rattle.session_scopes.specs.SessionState.{SameObjects, SessionState, with_graph}
 use Rattle.session_calls.proofs.Joining.{same_itself, same_more}
 use Rattle.session_objects.specs.Taking.{session_joined, session_taken, taken_under}
-use Rattle.session_links.specs.Linking.{child_of, coming_along, session_by, session_changed, session_linked, session_orphaned, session_put}
+use Rattle.session_links.specs.Linking.{coming_along, session_by, session_changed, session_linked, session_orphaned, session_put}
 use Rattle.session_links.specs.Relinked.{IsRelinked}
 use Rattle.session_links.proofs.Acting.{child_made}
 use Rattle.session_links.proofs.PutLemmas.{fits_there, placed_later, relinked_more, relinked_orphan, relinked_put, relinked_same}

@@ -13,7 +13,8 @@ use Rattle.object_arena.specs.declared.object.Object.{Object}
 use Rattle.object_arena.specs.Graph.{Graph, is_among, IsObject, object_at}
 use Rattle.object_arena.specs.Fit.{IsFit, relation_of}
 use Rattle.relations.specs.Keys.{IsEnd}
-use Rattle.relations.specs.Mirror.{append, has_member, has_orphans, is_of, is_unloaded, leads_elsewhere, link_at, loaded_to, remove, set_one}
+use Rattle.relations.specs.Calls.{append, remove, set_one}
+use Rattle.relations.specs.Mirror.{has_member, has_orphans, is_of, is_unloaded, leads_elsewhere, link_at, loaded_to}
 use Rattle.relations.specs.Parents.{is_known_as, old_parent}
 use Rattle.object_parts.specs.Sides.{joined_by, left_by}
 use Rattle.relations.specs.declared.parents.OldParent.{OldParent}

@@ -22,7 +22,7 @@ add_linked-requires-clause-object c =
 pub loop-next-preserved : goal.loop-next-preserved
 loop-next-preserved c =
     let followed = subst (λ ends. Comes (is_in c.loop-next.walk.reached.keys) (is_in c.come_to_all.new.self.reached.keys) c.pop.new.self.items c.come_to_all.new.self.waiting.items ends)
-    (c.as_slice.ensures ∙ c.in_ok-add_linked.ensures.linked ∙ ap (λ (xs : List ObjId). xs ++ linked_objects c.args.flag c.args.mapping.now c.args.arena.now c.in-Some.next) c.clear.ensures) c.in_ok-come_to_all.ensures.ok in (
+    (c.as_slice.ensures ∙ c.in_ok-add_linked.ensures ∙ ap (λ (xs : List ObjId). xs ++ linked_objects c.args.flag c.args.mapping.now c.args.arena.now c.in-Some.next) c.clear.ensures) c.in_ok-come_to_all.ensures.ok in (
       walk_more c.args.flag c.args.mapping.now c.args.arena.now c.args.object (is_in c.loop-next.walk.reached.keys) (is_in c.come_to_all.new.self.reached.keys) c.pop.new.self.items c.come_to_all.new.self.waiting.items c.in-Some.next
           (taken_reached c.args.flag c.args.mapping.now c.args.arena.now c.args.object (is_in c.loop-next.walk.reached.keys) c.loop-next.walk.waiting.items c.pop.new.self.items c.in-Some.next c.in-Some.ensures.items c.loop-next.invariant.0)
           (walk_taken c.args.flag c.args.mapping.now c.args.arena.now c.args.object (is_in c.loop-next.walk.reached.keys) c.loop-next.walk.waiting.items c.pop.new.self.items c.in-Some.next c.in-Some.ensures.items c.loop-next.invariant.0)
@@ -44,10 +44,10 @@ loop-next-smaller c =
     < (length c.args.arena.now.objects + 1 - length c.loop-next.walk.reached.keys) + length c.loop-next.walk.waiting.items = omega (arith, c.in_ok-come_to_all.ensures.count, taken, few, before) in
     smaller
 
-pub returns-clause-closure : goal.returns-clause-closure
-returns-clause-closure c =
+pub returns : goal.returns
+returns c =
     let nothing : length c.loop-next.walk.waiting.items ≡ 0 = omega (arith, c.loop-next.walk.waiting.ok, c.in_default.ensures.cases.0) in
     if_ok (λ (set : List ObjId). set ≡ map id_of_number c.loop-next.walk.reached.keys) (IsClosure c.args.flag c.args.mapping.now c.args.arena.now c.args.object) c.into_set.result
     (λ set is. kept_ended c.args.flag c.args.mapping.now c.args.arena.now c.args.object c.loop-next.walk.reached.keys c.loop-next.walk.waiting.items set c.requires.fit c.requires.object c.loop-next.invariant.1
     (empty_of c.loop-next.walk.waiting.items nothing) is c.loop-next.invariant.0)
-    c.into_set.ensures.set
+    c.into_set.ensures

@@ -32,7 +32,7 @@ come_to_all-requires c =
     ends_within c.args.flag c.args.mapping.now c.args.arena.now c.in-Some.next c.as_slice.result.now c.loop-next.walk.marks.items c.requires.fit
     (reached_made c.args.flag c.args.mapping.now c.args.arena.now c.args.object none (is_marked c.loop-next.walk.marks.items) c.loop-next.walk.waiting.items c.in-Some.next.0 c.requires.fit c.requires.object c.loop-next.invariant.0
     (taken_reached c.args.flag c.args.mapping.now c.args.arena.now c.args.object (is_marked c.loop-next.walk.marks.items) c.loop-next.walk.waiting.items c.pop.new.self.items c.in-Some.next c.in-Some.ensures.items c.loop-next.invariant.0))
-    (c.as_slice.ensures ∙ c.in_ok-add_linked.ensures.linked ∙ ap (λ (xs : List ObjId). xs ++ ends) c.clear.ensures) c.loop-next.invariant.1
+    (c.as_slice.ensures ∙ c.in_ok-add_linked.ensures ∙ ap (λ (xs : List ObjId). xs ++ ends) c.clear.ensures) c.loop-next.invariant.1
 
 pub loop-next-preserved : goal.loop-next-preserved
 loop-next-preserved c =
@@ -41,14 +41,14 @@ loop-next-preserved c =
           (taken_reached c.args.flag c.args.mapping.now c.args.arena.now c.args.object (is_marked c.loop-next.walk.marks.items) c.loop-next.walk.waiting.items c.pop.new.self.items c.in-Some.next c.in-Some.ensures.items c.loop-next.invariant.0)
           (walk_taken c.args.flag c.args.mapping.now c.args.arena.now c.args.object (is_marked c.loop-next.walk.marks.items) c.loop-next.walk.waiting.items c.pop.new.self.items c.in-Some.next c.in-Some.ensures.items c.loop-next.invariant.0)
           (subst (λ (es : List ObjId). Comes (is_marked c.loop-next.walk.marks.items) (is_marked c.come_to_all.new.self.marks.items) c.pop.new.self.items c.come_to_all.new.self.waiting.items es)
-          (c.as_slice.ensures ∙ c.in_ok-add_linked.ensures.linked ∙ ap (λ (xs : List ObjId). xs ++ ends) c.clear.ensures) c.in_ok-come_to_all.ensures.ok),
+          (c.as_slice.ensures ∙ c.in_ok-add_linked.ensures ∙ ap (λ (xs : List ObjId). xs ++ ends) c.clear.ensures) c.in_ok-come_to_all.ensures.ok),
       c.in_ok-come_to_all.ensures.long ∙ c.loop-next.invariant.1,
     )
 
-pub returns-clause-closure : goal.returns-clause-closure
-returns-clause-closure c =
+pub returns : goal.returns
+returns c =
     let nothing : length c.loop-next.walk.waiting.items ≡ 0 = omega (arith, c.loop-next.walk.waiting.ok, c.in_default.ensures.cases.0) in
     if_ok (λ (set : List ObjId). set ≡ marked_from 0 c.loop-next.walk.marks.items) (IsClosure c.args.flag c.args.mapping.now c.args.arena.now c.args.object) c.into_set.result
     (λ set is. marks_ended c.args.flag c.args.mapping.now c.args.arena.now c.args.object c.loop-next.walk.marks.items c.loop-next.walk.waiting.items set c.requires.fit c.requires.object
     (empty_of c.loop-next.walk.waiting.items nothing) is c.loop-next.invariant.0)
-    c.into_set.ensures.set
+    c.into_set.ensures

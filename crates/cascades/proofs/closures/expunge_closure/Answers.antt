@@ -3,4 +3,4 @@ use Rattle.cascades.proofs.LeastLemmas.{if_closure}
 use Rattle.cascades.proofs.closures.expunge_closure.Goals as goal
 
 pub returns-clause-is : goal.returns-clause-is
-returns-clause-is c = if_closure Expunge c.args.mapping.now c.args.arena.now c.args.object c.closure.result c.closure.ensures.closure
+returns-clause-is c = if_closure Expunge c.args.mapping.now c.args.arena.now c.args.object c.closure.result c.closure.ensures

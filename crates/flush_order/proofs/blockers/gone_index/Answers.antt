@@ -9,4 +9,4 @@ loop-place-preserved c =
     let schema = c.args.gone.now.schema.now in
     let changes = c.args.gone.now.changes.now in
     let here : (c.at-row.result.now.name.table, c.at-row.result.now.key) ≡ gone_place schema changes c.loop-place.place = ap (λ (row : ReadyGone). (row.name.table, row.key)) c.at-row.ensures.ready in
-    index_more (gone_place schema changes) c.loop-place.place c.loop-place.index c.enter.new.index (c.at-row.result.now.name.table, c.at-row.result.now.key) here c.loop-place.invariant c.in_ok-enter.ensures.entered
+    index_more (gone_place schema changes) c.loop-place.place c.loop-place.index c.enter.new.index (c.at-row.result.now.name.table, c.at-row.result.now.key) here c.loop-place.invariant c.in_ok-enter.ensures

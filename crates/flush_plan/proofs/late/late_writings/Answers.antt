@@ -4,10 +4,10 @@ use Rattle.std.specs.List.{filter}
 use Rattle.flush_writes.specs.Writes.{cells_when, late_gone, writing_some}
 use Rattle.flush_plan.proofs.late.late_writings.Goals as goal
 
-pub returns-clause-writings : goal.returns-clause-writings
-returns-clause-writings c =
+pub returns : goal.returns
+returns c =
     let schema = c.args.schema.now in
     let changes = c.args.changes.now in
-    c.in_ok-push_late_gone.ensures.writings
-    ∙ ap (λ ws. ws ++ filter writing_some (map (late_gone schema changes) changes.gone)) c.in_ok-writings.ensures.writings
+    c.in_ok-push_late_gone.ensures
+    ∙ ap (λ ws. ws ++ filter writing_some (map (late_gone schema changes) changes.gone)) c.in_ok-writings.ensures
     ∙ sym (filter-append writing_some (map (cells_when schema changes true) changes.changed) (map (late_gone schema changes) changes.gone))

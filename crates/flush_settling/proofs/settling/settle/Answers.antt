@@ -1,6 +1,5 @@
 use Rattle.graph_flushed.specs.Flushed.{Written, written_with}
-use Rattle.graph_flushed.proofs.FitSteps.{flushed_fits}
-use Rattle.flush_settling.proofs.SettleSteps.{settled_ok, settled_touched}
+use Rattle.flush_settling.proofs.SettleSteps.{settled_fits, settled_ok, settled_touched}
 use Rattle.flush_settling.proofs.settling.settle.Goals as goal
 
 pub returns-clause-ok : goal.returns-clause-ok
@@ -16,5 +15,5 @@ pub returns-clause-fits : goal.returns-clause-fits
 returns-clause-fits c =
     λ good.
     let written : Written = written_with c.args.mapping.now c.args.prepared.now c.args.changes.now c.args.keys.now c.args.arena.now in
-    flushed_fits c.args.mapping.now c.args.arena.now c.put_records.new.arena c.args.prepared.now c.args.changes.now c.args.keys.now c.put_records.result c.requires.fit
+    settled_fits c.args.mapping.now c.args.arena.now c.put_records.new.arena c.args.prepared.now c.args.changes.now c.args.keys.now c.put_records.result c.requires.fit
     (settled_ok written c.put_records.new.arena c.in_ok-records.records c.put_records.result c.in_ok-records.ensures.records c.put_records.ensures.ok) c.put_records.ensures.err c.put_records.ensures.classes good

@@ -13,9 +13,9 @@ loop-behind-preserved c =
     let number : place + 1 + c.loop-behind.behind ≡ length c.args.keys.now = omega (arith, count, c.loop-behind-test.true) in
     let within : place < length c.args.keys.now = omega (arith, number) in
     one_entered c.loop-behind.holders.maps.items c.enter.new.holders.maps.items c.args.keys.now c.args.arena.now.roots c.loop-behind.behind place c.index-keys-place.result
-    (c.count-count.ensures.graph.rooted ∙ sym c.requires) number (c.index-keys-place.is ∙ get_or_default c.args.keys.now place c.index-keys-place.result None within) c.in_ok-enter.ensures.entered c.loop-behind.invariant
+    (c.count-count.ensures.graph.rooted ∙ sym c.requires) number (c.index-keys-place.is ∙ get_or_default c.args.keys.now place c.index-keys-place.result None within) c.in_ok-enter.ensures c.loop-behind.invariant
 
-pub returns-clause-holders : goal.returns-clause-holders
-returns-clause-holders c =
+pub returns : goal.returns
+returns c =
     let count : c.count-count.result ≡ length c.args.keys.now = c.count-count.ensures.count ∙ sym c.requires in
     all_entered c.loop-behind.holders.maps.items c.args.keys.now c.args.arena.now.roots c.loop-behind.behind (omega (arith, count)) c.loop-behind.invariant

@@ -1,8 +1,7 @@
-use Rattle.std.proofs.Common.{◌≡◌, ◌∙◌, Bool, true, ◌&&◌, List, refl, sym, subst}
+use Rattle.std.proofs.Common.{◌∙◌, Bool, List, refl, sym, subst}
 use Rattle.std.proofs.lemmas.Bool.{and_parts}
 use Rattle.base_core.specs.declared.value.Value.{Value}
-use Rattle.keeper_core.proofs.Lifting.{no_room}
-use Rattle.keeper_core.proofs.Sequence.{passed_on}
+use Rattle.keeper_core.proofs.Sequence.{no_memory, passed_on}
 use Rattle.load_filling.proofs.LoadedLemmas.{grows_same}
 use Rattle.load_filling.specs.Rows.{row_key}
 use Rattle.load_rows.specs.Loading.{loading}
@@ -17,14 +16,14 @@ use Rattle.joined_rows.proofs.RowLemmas.{is_keyed_row}
 use Rattle.joined_rows.proofs.members.take_member.Goals as goal
 
 pub returns-in_err-is_there-clause-step : goal.returns-in_err-is_there-clause-step
-returns-in_err-is_there-clause-step c = passed_on c.from_residual.ensures.1 (no_room c.in_err-is_there.ensures.cause)
+returns-in_err-is_there-clause-step c = passed_on c.from_residual.ensures.1 no_memory
 
 pub returns-in_err-is_there-clause-grows : goal.returns-in_err-is_there-clause-grows
 returns-in_err-is_there-clause-grows c = grows_same c.args.arena.now c.args.arena.now refl
 
 pub returns-then-not-is_there-clause-step : goal.returns-then-not-is_there-clause-step
 returns-then-not-is_there-clause-step c =
-    none_taken c.args.mapping.now c.args.row.now c.args.part (loading c.args.arena.now c.args.notes.now) (sym c.in_ok-is_there.ensures.has ∙ c.if-not-is_there.true)
+    none_taken c.args.mapping.now c.args.row.now c.args.part (loading c.args.arena.now c.args.notes.now) (sym c.in_ok-is_there.ensures ∙ c.if-not-is_there.true)
 
 pub returns-then-not-is_there-clause-grows : goal.returns-then-not-is_there-clause-grows
 returns-then-not-is_there-clause-grows c = grows_same c.args.arena.now c.args.arena.now refl
@@ -35,25 +34,25 @@ take_row-requires-clause-row c =
     let row : List Value = c.args.row.now in
     let keyed : Bool = are_given (row_key c.args.mapping.now part.target (values_from part row)) in
     subst (IsRowOf c.args.mapping.now part.target) (sym c.values_from-values.ensures)
-    (is_keyed_row c.args.mapping.now part.target (values_from part row) (c.has_hierarchies.ensures.hierarchies c.requires.configured) c.requires.target c.requires.kinds
-    (and_parts keyed (are_given (further_keys part row)) (sym c.in_ok-is_there.ensures.has ∙ c.if-not-is_there.false)).0)
+    (is_keyed_row c.args.mapping.now part.target (values_from part row) c.schema.ensures.configured.hierarchies c.requires.target c.requires.kinds
+    (and_parts keyed (are_given (further_keys part row)) (sym c.in_ok-is_there.ensures ∙ c.if-not-is_there.false)).0)
 
 pub returns-in_err-object-clause-step : goal.returns-in_err-object-clause-step
 returns-in_err-object-clause-step c =
     passed_on c.from_residual-in_err-object.ensures.1
     (member_refused c.args.mapping.now c.args.row.now c.values_from-values.result.now c.args.part (loading c.args.arena.now c.args.notes.now) (loading c.take_row.new.arena c.take_row.new.notes) _
-    (sym c.in_ok-is_there.ensures.has ∙ c.if-not-is_there.false) c.values_from-values.ensures c.in_err-object.ensures.step)
+    (sym c.in_ok-is_there.ensures ∙ c.if-not-is_there.false) c.values_from-values.ensures c.in_err-object.ensures.step)
 
 pub returns-clause-step : goal.returns-clause-step
 returns-clause-step c =
     member_taken c.args.mapping.now c.args.row.now c.values_from-values.result.now c.args.part (loading c.args.arena.now c.args.notes.now) (loading c.take_row.new.arena c.take_row.new.notes) c.in_ok-object.object
-    (sym c.in_ok-is_there.ensures.has ∙ c.if-not-is_there.false) c.values_from-values.ensures c.in_ok-object.ensures.step
+    (sym c.in_ok-is_there.ensures ∙ c.if-not-is_there.false) c.values_from-values.ensures c.in_ok-object.ensures.step
 
 pub returns-clause-of : goal.returns-clause-of
 returns-clause-of c = is_member c.args.mapping.now c.take_row.new.arena c.args.part c.in_ok-object.object c.in_ok-object.ensures.fits c.in_ok-object.ensures.exists c.in_ok-object.ensures.rooted
 
 pub returns-in_err-is_there-clause-refuses : goal.returns-in_err-is_there-clause-refuses
-returns-in_err-is_there-clause-refuses c = passed_memory CanRefuseRow _ c.from_residual.result c.from_residual.ensures.1 c.in_err-is_there.ensures.cause tt
+returns-in_err-is_there-clause-refuses c = passed_memory CanRefuseRow c.from_residual.result c.from_residual.ensures.1 tt
 
 pub returns-in_err-object-clause-refuses : goal.returns-in_err-object-clause-refuses
 returns-in_err-object-clause-refuses c =

@@ -5,11 +5,13 @@ use Rattle.object_arena.specs.Fit.{no_relation}
 use Rattle.joined_rows.specs.Parts.{part_from}
 use Rattle.joined_rows.proofs.parts.part_at.Goals as goal
 
-pub part_from-requires-clause-target : goal.part_from-requires-clause-target
-part_from-requires-clause-target c =
-    subst (λ (r : Relation). IsClass c.args.mapping.now r.target) (sym c.relation_at.ensures)
-    ((c.is_configured.ensures.related c.requires.configured).each c.args.class c.requires.class c.args.place.0 no_relation c.requires.place).target
+pub part_from-requires : goal.part_from-requires
+part_from-requires c = record {
+  target =
+      subst (λ (r : Relation). IsClass c.args.mapping.now r.target) (sym c.relation_at.ensures)
+      (c.schema.ensures.configured.related.each c.args.class c.requires.class c.args.place.0 no_relation c.requires.place).target;
+}
 
-pub returns-clause-part : goal.returns-clause-part
-returns-clause-part c =
-    subst (λ (r : Relation). IfOk c.part_from.result (λ part. part ≡ part_from c.args.mapping.now c.args.place r c.args.first)) c.relation_at.ensures c.part_from.ensures.part
+pub returns : goal.returns
+returns c =
+    subst (λ (r : Relation). IfOk c.part_from.result (λ part. part ≡ part_from c.args.mapping.now c.args.place r c.args.first)) c.relation_at.ensures c.part_from.ensures

@@ -6,13 +6,14 @@ use Rattle.keeper_core.proofs.Sequence.{passed_on}
 use Rattle.load_filling.proofs.LoadedLemmas.{grows_same}
 use Rattle.load_rows.proofs.TakenLemmas.{grows_filled}
 use Rattle.collection_selects.specs.Pairs.{IsMemberRow}
-use Rattle.load_calls.proofs.ReadLemmas.{passed_refusal, ready_stays}
+use Rattle.load_calls.proofs.ReadLemmas.{passed_memory, passed_refusal, passed_stays, ready_stays}
 use Rattle.load_calls.specs.Refusals.{CanRefuseRows}
-use Rattle.load_calls.proofs.RefusalLemmas.{lost_alone_refuses, of_row}
+use Rattle.load_calls.proofs.RefusalLemmas.{of_row}
 use Rattle.load_batches.specs.Batches.{objects_in}
 use Rattle.load_batches.specs.declared.members.Member.{Member}
 use Rattle.load_batches.proofs.BatchSteps.{batch_filled, batch_refused, no_batch, none_there, row_refused, some_there}
 use Rattle.load_batches.proofs.OwnerSteps.{keyed_all, owned_still}
+use Rattle.keeper_core.proofs.AloneLemmas.{lost_alone}
 use Rattle.load_batches.proofs.batches.load_batch.Goals as goal
 
 pub returns-then-is_empty-clause-step : goal.returns-then-is_empty-clause-step
@@ -45,7 +46,7 @@ returns-in_err-members-clause-step g c =
     (c.in_ok-rows.ensures.step c.args.arena.now) c.in_err-members.ensures.step)
 
 pub returns-in_err-members-clause-stays : goal.returns-in_err-members-clause-stays
-returns-in_err-members-clause-stays g c = ready_stays c.args.mapping.now.schema (g.K.Keeper.moment c.read_batch.new.keeper) c.from_residual-in_err-members.result c.in_ok-rows.ensures.stays
+returns-in_err-members-clause-stays g c = ready_stays (g.K.Keeper.moment c.args.keeper.now) (g.K.Keeper.moment c.read_batch.new.keeper) c.from_residual-in_err-members.result c.in_ok-rows.ensures.stays
 
 pub fill_owners-requires-clause-owned : goal.fill_owners-requires-clause-owned
 fill_owners-requires-clause-owned g c = owned_still c.args.mapping.now c.args.arena.now c.take_members.new.arena c.args.relation.now c.args.place c.args.owners.now c.in_ok-members.ensures.grows c.requires.owned
@@ -57,20 +58,30 @@ fill_owners-requires-clause-of g c =
 pub returns-clause-step : goal.returns-clause-step
 returns-clause-step g c =
     batch_filled g.K.Keeper.moment c.args.mapping.now c.args.relation.now c.args.place c.args.owners.now c.in_ok-rows.rows c.as_slice.result.now c.in_ok-members.members c.as_slice-2.result.now (some_there c.args.owners.now c.if-is_empty.ensures)
-    c.as_slice.ensures c.as_slice-2.ensures (c.in_ok-rows.ensures.step c.args.arena.now) c.in_ok-members.ensures.step c.fill_owners.ensures.step
+    c.as_slice.ensures c.as_slice-2.ensures (c.in_ok-rows.ensures.step c.args.arena.now) c.in_ok-members.ensures.step c.in_ok-fill_owners.ensures.step
 
-pub returns-clause-stays : goal.returns-clause-stays
-returns-clause-stays g c = ready_stays c.args.mapping.now.schema (g.K.Keeper.moment c.read_batch.new.keeper) c.fill_owners.result c.in_ok-rows.ensures.stays
+pub returns-in_err-fill_owners-clause-step : goal.returns-in_err-fill_owners-clause-step
+returns-in_err-fill_owners-clause-step g c =
+    passed_on c.from_residual-in_err-fill_owners.ensures.1
+    (batch_filled g.K.Keeper.moment c.args.mapping.now c.args.relation.now c.args.place c.args.owners.now c.in_ok-rows.rows c.as_slice.result.now c.in_ok-members.members c.as_slice-2.result.now (some_there c.args.owners.now c.if-is_empty.ensures)
+    c.as_slice.ensures c.as_slice-2.ensures (c.in_ok-rows.ensures.step c.args.arena.now) c.in_ok-members.ensures.step (lost_alone refl))
+
+pub returns-in_err-fill_owners-clause-stays : goal.returns-in_err-fill_owners-clause-stays
+returns-in_err-fill_owners-clause-stays g c =
+    passed_stays (g.K.Keeper.moment c.args.keeper.now) (g.K.Keeper.moment c.read_batch.new.keeper) c.from_residual-in_err-fill_owners.result c.from_residual-in_err-fill_owners.ensures.1
 
 pub returns-clause-grows : goal.returns-clause-grows
-returns-clause-grows g c = grows_filled c.args.arena.now c.take_members.new.arena c.fill_owners.new.arena c.in_ok-members.ensures.grows c.fill_owners.ensures.classes
+returns-clause-grows g c = grows_filled c.args.arena.now c.take_members.new.arena c.fill_owners.new.arena c.in_ok-members.ensures.grows c.in_ok-fill_owners.ensures.classes
+
+pub returns-in_err-fill_owners-clause-grows : goal.returns-in_err-fill_owners-clause-grows
+returns-in_err-fill_owners-clause-grows g c = grows_filled c.args.arena.now c.take_members.new.arena c.fill_owners.new.arena c.in_ok-members.ensures.grows c.in_err-fill_owners.ensures.classes
 
 pub returns-in_err-members-clause-refuses : goal.returns-in_err-members-clause-refuses
 returns-in_err-members-clause-refuses g c =
     passed_refusal (CanRefuseRows c.args.mapping.now) _ c.from_residual-in_err-members.result c.from_residual-in_err-members.ensures.1 (of_row c.args.mapping.now _ c.in_err-members.ensures.refuses)
 
-pub returns-clause-refuses : goal.returns-clause-refuses
-returns-clause-refuses g c = lost_alone_refuses (CanRefuseRows c.args.mapping.now) c.fill_owners.result c.fill_owners.ensures.cause tt
+pub returns-in_err-fill_owners-clause-refuses : goal.returns-in_err-fill_owners-clause-refuses
+returns-in_err-fill_owners-clause-refuses g c = passed_memory (CanRefuseRows c.args.mapping.now) c.from_residual-in_err-fill_owners.result c.from_residual-in_err-fill_owners.ensures.1 tt
 
 pub returns-in_err-rows-clause-refuses : goal.returns-in_err-rows-clause-refuses
 returns-in_err-rows-clause-refuses g c = passed_refusal (CanRefuseRows c.args.mapping.now) _ c.from_residual.result c.from_residual.ensures.1 c.in_err-rows.ensures.refuses

@@ -9,13 +9,13 @@ use Rattle.load_batches.specs.declared.owners.Owner.{Owner}
 use Rattle.load_batches.proofs.BatchSteps.{batch_run, batches_start}
 use Rattle.load_batches.proofs.OwnerSteps.{batch_all, owned_still}
 use Rattle.load_calls.specs.Refusals.{CanRefuseRows}
-use Rattle.load_calls.proofs.ReadLemmas.{passed_refusal}
+use Rattle.load_calls.proofs.ReadLemmas.{passed_refusal, passed_still, stays_then, still_then}
 use Rattle.load_batches.proofs.batches.load_each.Goals as goal
 
 pub loop-start-init : goal.loop-start-init
 loop-start-init g c = record {
   step = batches_start g.K.Keeper.moment c.args.mapping.now c.args.relation.now c.args.place c.args.owners.now c.args.starts.now (loading c.args.arena.now c.args.notes.now) c.args.keeper.now;
-  ready = c.requires.ready;
+  ready = (c.requires.ready, refl);
   grows = grows_same c.args.arena.now c.args.arena.now refl;
   fits = c.requires.fit;
 }
@@ -40,7 +40,7 @@ loop-start-preserved g c = record {
   step =
       each_turn (load_from c.args.mapping.now c.args.relation.now c.args.place c.args.owners.now) c.args.starts.now c.loop-start.start-index c.loop-start.invariant.step c.loop-start-test.true (search rules)
       (batch_run g.K.Keeper.moment c.args.mapping.now c.args.relation.now c.args.place c.args.owners.now _ _ c.batch_at-batch.ensures c.in_ok-load_batch.ensures.step) refl;
-  ready = c.in_ok-load_batch.ensures.stays;
+  ready = still_then (g.K.Keeper.moment c.args.keeper.now) (g.K.Keeper.moment c.loop-start.keeper) (g.K.Keeper.moment c.load_batch.new.keeper) c.loop-start.invariant.ready c.in_ok-load_batch.ensures.stays;
   grows = grows_then c.args.arena.now c.loop-start.arena c.load_batch.new.arena c.loop-start.invariant.grows c.in_ok-load_batch.ensures.grows;
   fits = c.in_ok-load_batch.ensures.fits;
 }
@@ -50,3 +50,10 @@ returns-clause-step g c = each_end (load_from c.args.mapping.now c.args.relation
 
 pub returns-in_err-load_batch-clause-refuses : goal.returns-in_err-load_batch-clause-refuses
 returns-in_err-load_batch-clause-refuses g c = passed_refusal (CanRefuseRows c.args.mapping.now) _ c.from_residual.result c.from_residual.ensures.1 c.in_err-load_batch.ensures.refuses
+
+pub load_batch-requires-clause-ready : goal.load_batch-requires-clause-ready
+load_batch-requires-clause-ready g c = c.loop-start.invariant.ready.0
+
+pub returns-in_err-load_batch-clause-stays : goal.returns-in_err-load_batch-clause-stays
+returns-in_err-load_batch-clause-stays g c = passed_still (g.K.Keeper.moment c.args.keeper.now) (g.K.Keeper.moment c.load_batch.new.keeper) _ c.from_residual.result c.from_residual.ensures.1
+    (stays_then (g.K.Keeper.moment c.args.keeper.now) (g.K.Keeper.moment c.loop-start.keeper) (g.K.Keeper.moment c.load_batch.new.keeper) _ c.loop-start.invariant.ready c.in_err-load_batch.ensures.stays)

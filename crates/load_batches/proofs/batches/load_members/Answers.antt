@@ -1,7 +1,6 @@
 use Rattle.std.proofs.Common.{refl, subst, sym, List}
 use Rattle.std.specs.List.{All}
-use Rattle.keeper_core.proofs.Lifting.{no_room}
-use Rattle.keeper_core.proofs.Sequence.{passed_on}
+use Rattle.keeper_core.proofs.Sequence.{no_memory, passed_on}
 use Rattle.load_filling.proofs.LoadedLemmas.{grows_same}
 use Rattle.load_calls.proofs.ReadLemmas.{passed_memory, passed_stays}
 use Rattle.load_calls.specs.Refusals.{CanRefuseRows}
@@ -11,10 +10,10 @@ use Rattle.load_batches.proofs.BatchSteps.{members_loaded}
 use Rattle.load_batches.proofs.batches.load_members.Goals as goal
 
 pub returns-in_err-unloaded-clause-step : goal.returns-in_err-unloaded-clause-step
-returns-in_err-unloaded-clause-step g c = passed_on c.from_residual.ensures.1 (no_room c.in_err-unloaded.ensures.cause)
+returns-in_err-unloaded-clause-step g c = passed_on c.from_residual.ensures.1 no_memory
 
 pub returns-in_err-unloaded-clause-stays : goal.returns-in_err-unloaded-clause-stays
-returns-in_err-unloaded-clause-stays g c = passed_stays c.args.mapping.now.schema (g.K.Keeper.moment c.args.keeper.now) _ c.from_residual.result c.from_residual.ensures.1 c.in_err-unloaded.ensures.cause
+returns-in_err-unloaded-clause-stays g c = passed_stays (g.K.Keeper.moment c.args.keeper.now) (g.K.Keeper.moment c.args.keeper.now) c.from_residual.result c.from_residual.ensures.1
 
 pub returns-in_err-unloaded-clause-grows : goal.returns-in_err-unloaded-clause-grows
 returns-in_err-unloaded-clause-grows g c = grows_same c.args.arena.now c.args.arena.now refl
@@ -28,4 +27,4 @@ returns-clause-step g c =
     members_loaded g.K.Keeper.moment c.args.mapping.now c.args.relation.now c.args.place c.args.owners.now c.args.arena.now c.in_ok-unloaded.unloaded c.as_slice.result.now c.in_ok-unloaded.ensures.owners c.as_slice.ensures c.load_batches.ensures.step
 
 pub returns-in_err-unloaded-clause-refuses : goal.returns-in_err-unloaded-clause-refuses
-returns-in_err-unloaded-clause-refuses g c = passed_memory (CanRefuseRows c.args.mapping.now) _ c.from_residual.result c.from_residual.ensures.1 c.in_err-unloaded.ensures.cause tt
+returns-in_err-unloaded-clause-refuses g c = passed_memory (CanRefuseRows c.args.mapping.now) c.from_residual.result c.from_residual.ensures.1 tt

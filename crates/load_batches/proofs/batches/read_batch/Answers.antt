@@ -1,5 +1,4 @@
-use Rattle.keeper_core.proofs.Lifting.{no_room}
-use Rattle.keeper_core.proofs.Sequence.{passed_on}
+use Rattle.keeper_core.proofs.Sequence.{no_memory, passed_on}
 use Rattle.load_calls.proofs.ReadLemmas.{passed_memory, passed_stays}
 use Rattle.load_calls.specs.Refusals.{CanRefuseRows}
 use Rattle.load_calls.proofs.RefusalLemmas.{refused_select}
@@ -7,10 +6,10 @@ use Rattle.load_batches.proofs.BatchSteps.{batch_read, batch_rows}
 use Rattle.load_batches.proofs.batches.read_batch.Goals as goal
 
 pub returns-in_err-wanted-clause-step : goal.returns-in_err-wanted-clause-step
-returns-in_err-wanted-clause-step g c = λ graph. passed_on c.from_residual.ensures.1 (no_room c.in_err-wanted.ensures.cause)
+returns-in_err-wanted-clause-step g c = λ graph. passed_on c.from_residual.ensures.1 no_memory
 
 pub returns-in_err-wanted-clause-stays : goal.returns-in_err-wanted-clause-stays
-returns-in_err-wanted-clause-stays g c = passed_stays c.args.mapping.now.schema (g.K.Keeper.moment c.args.keeper.now) _ c.from_residual.result c.from_residual.ensures.1 c.in_err-wanted.ensures.cause
+returns-in_err-wanted-clause-stays g c = passed_stays (g.K.Keeper.moment c.args.keeper.now) (g.K.Keeper.moment c.args.keeper.now) c.from_residual.result c.from_residual.ensures.1
 
 pub returns-clause-step : goal.returns-clause-step
 returns-clause-step g c = λ graph.
@@ -21,7 +20,7 @@ returns-clause-rows g c =
     batch_rows c.args.mapping.now c.args.relation.now c.args.owners.now c.in_ok-wanted.wanted c.read-rows.result c.in_ok-wanted.ensures.hierarchies c.requires.related c.in_ok-wanted.ensures.select c.read-rows.ensures.kinds c.read-rows.ensures.given
 
 pub returns-in_err-wanted-clause-refuses : goal.returns-in_err-wanted-clause-refuses
-returns-in_err-wanted-clause-refuses g c = passed_memory (CanRefuseRows c.args.mapping.now) _ c.from_residual.result c.from_residual.ensures.1 c.in_err-wanted.ensures.cause tt
+returns-in_err-wanted-clause-refuses g c = passed_memory (CanRefuseRows c.args.mapping.now) c.from_residual.result c.from_residual.ensures.1 tt
 
 pub returns-clause-refuses : goal.returns-clause-refuses
 returns-clause-refuses g c = refused_select c.args.mapping.now c.in_ok-wanted.wanted c.read-rows.result c.read-rows.ensures.refuses

@@ -28,4 +28,4 @@ fill_collection-requires-clause-read c =
 pub returns-clause-step : goal.returns-clause-step
 returns-clause-step c =
     owner_filled c.args.place c.args.members.now c.args.owner.now c.members_under.result.now (loading c.args.arena.now c.args.notes.now) (loading c.fill_collection.new.arena c.fill_collection.new.notes) c.fill_collection.result
-    (c.members_under.ensures ∙ c.requires.groups.same c.args.owner.now.key) c.fill_collection.ensures.filled c.fill_collection.ensures.cause
+    (c.members_under.ensures ∙ c.requires.groups.same c.args.owner.now.key) c.fill_collection.ensures.filled

@@ -1,7 +1,6 @@
 use Rattle.std.proofs.Common.{◌∙◌, refl, rules}
 use Rattle.class_mapping.specs.Mapped.{root_of}
-use Rattle.keeper_core.proofs.Lifting.{no_room}
-use Rattle.keeper_core.proofs.Sequence.{each_end, each_err, each_turn, passed_on}
+use Rattle.keeper_core.proofs.Sequence.{each_end, each_turn}
 use Rattle.load_rows.specs.Loading.{loading}
 use Rattle.load_filling.proofs.LoadedLemmas.{grows_same}
 use Rattle.load_rows.proofs.TakenLemmas.{grows_filled}
@@ -9,9 +8,6 @@ use Rattle.load_batches.specs.Batches.{fill_owner, objects_in}
 use Rattle.load_batches.proofs.MemberSteps.{of_same, owners_start}
 use Rattle.load_batches.proofs.OwnerSteps.{owned_at}
 use Rattle.load_batches.proofs.filling.fill_owners.Goals as goal
-
-pub returns-in_err-groups-clause-step : goal.returns-in_err-groups-clause-step
-returns-in_err-groups-clause-step c = passed_on c.from_residual.ensures.1 (no_room c.in_err-groups.ensures.cause)
 
 pub loop-owner-init : goal.loop-owner-init
 loop-owner-init c = record {
@@ -28,11 +24,6 @@ fill_owner-requires-clause-owned c =
 pub fill_owner-requires-clause-of : goal.fill_owner-requires-clause-of
 fill_owner-requires-clause-of c =
     of_same c.args.arena.now c.loop-owner.arena (root_of c.args.mapping.now c.args.relation.now.target) (objects_in c.args.members.now) c.loop-owner.invariant.classes c.requires.of
-
-pub returns-in_err-fill_owner-clause-step : goal.returns-in_err-fill_owner-clause-step
-returns-in_err-fill_owner-clause-step c =
-    passed_on c.from_residual-in_err-fill_owner.ensures.1
-    (each_err (fill_owner c.args.place c.args.members.now) c.args.owners.now c.loop-owner.owner-index c.loop-owner.invariant.step c.loop-owner-test.true (search rules) c.in_err-fill_owner.ensures.step)
 
 pub returns-in_err-fill_owner-clause-classes : goal.returns-in_err-fill_owner-clause-classes
 returns-in_err-fill_owner-clause-classes c = c.in_err-fill_owner.ensures.classes ∙ c.loop-owner.invariant.classes

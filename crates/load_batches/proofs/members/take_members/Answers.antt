@@ -1,6 +1,5 @@
 use Rattle.std.proofs.Common.{ap, refl, rules}
-use Rattle.keeper_core.proofs.Lifting.{no_room}
-use Rattle.keeper_core.proofs.Sequence.{each_end, each_err, each_turn, passed_on}
+use Rattle.keeper_core.proofs.Sequence.{each_end, each_err, each_turn, no_memory, passed_on}
 use Rattle.class_mapping.specs.Mapped.{root_of}
 use Rattle.load_filling.proofs.LoadedLemmas.{grows_same}
 use Rattle.load_rows.specs.Loading.{loading}
@@ -12,13 +11,13 @@ use Rattle.load_batches.proofs.MemberSteps.{members_start}
 use Rattle.load_batches.proofs.members.take_members.Goals as goal
 
 pub returns-in_err-width-clause-step : goal.returns-in_err-width-clause-step
-returns-in_err-width-clause-step c = passed_on c.from_residual.ensures.1 (no_room c.in_err-width.ensures.cause)
+returns-in_err-width-clause-step c = passed_on c.from_residual.ensures.1 no_memory
 
 pub returns-in_err-width-clause-grows : goal.returns-in_err-width-clause-grows
 returns-in_err-width-clause-grows c = grows_same c.args.arena.now c.args.arena.now refl
 
 pub returns-in_err-places-clause-step : goal.returns-in_err-places-clause-step
-returns-in_err-places-clause-step c = passed_on c.from_residual-in_err-places.ensures.1 (no_room c.in_err-places.ensures.cause)
+returns-in_err-places-clause-step c = passed_on c.from_residual-in_err-places.ensures.1 no_memory
 
 pub returns-in_err-places-clause-grows : goal.returns-in_err-places-clause-grows
 returns-in_err-places-clause-grows c = grows_same c.args.arena.now c.args.arena.now refl
@@ -51,10 +50,10 @@ pub returns-clause-step : goal.returns-clause-step
 returns-clause-step c = each_end (take_member c.args.mapping.now c.args.relation.now) c.args.rows.now c.loop-row.row-index c.loop-row.invariant.step c.loop-row-test.false refl
 
 pub returns-in_err-width-clause-refuses : goal.returns-in_err-width-clause-refuses
-returns-in_err-width-clause-refuses c = passed_memory CanRefuseRow _ c.from_residual.result c.from_residual.ensures.1 c.in_err-width.ensures.cause tt
+returns-in_err-width-clause-refuses c = passed_memory CanRefuseRow c.from_residual.result c.from_residual.ensures.1 tt
 
 pub returns-in_err-places-clause-refuses : goal.returns-in_err-places-clause-refuses
-returns-in_err-places-clause-refuses c = passed_memory CanRefuseRow _ c.from_residual-in_err-places.result c.from_residual-in_err-places.ensures.1 c.in_err-places.ensures.cause tt
+returns-in_err-places-clause-refuses c = passed_memory CanRefuseRow c.from_residual-in_err-places.result c.from_residual-in_err-places.ensures.1 tt
 
 pub returns-in_err-take_member-clause-refuses : goal.returns-in_err-take_member-clause-refuses
 returns-in_err-take_member-clause-refuses c = passed_refusal CanRefuseRow _ c.from_residual-in_err-take_member.result c.from_residual-in_err-take_member.ensures.1 c.in_err-take_member.ensures.refuses

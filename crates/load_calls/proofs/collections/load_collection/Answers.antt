@@ -11,9 +11,9 @@ use Rattle.keeper_core.proofs.Sequence.{passed_on}
 use Rattle.load_filling.proofs.LoadedLemmas.{grows_same}
 use Rattle.load_rows.proofs.TakenLemmas.{grows_filled}
 use Rattle.load_rows.specs.Reading.{IsRowOf}
-use Rattle.load_calls.proofs.ReadLemmas.{passed_refusal, ready_stays}
+use Rattle.load_calls.proofs.ReadLemmas.{passed_memory, passed_refusal, passed_stays, ready_stays}
 use Rattle.load_calls.specs.Refusals.{CanRefuseRows}
-use Rattle.load_calls.proofs.RefusalLemmas.{lost_alone_refuses, of_row}
+use Rattle.load_calls.proofs.RefusalLemmas.{of_row}
 use Rattle.load_calls.proofs.CollectionLemmas.{class_there, collection_loaded, members_refused, owner_there, rows_refused, same_relation}
 use Rattle.load_calls.proofs.collections.load_collection.Goals as goal
 
@@ -45,7 +45,7 @@ returns-in_err-members-clause-step g c =
     (c.relation_at-relation.ensures ∙ ap (λ (o : Object). relation_of c.args.mapping.now o.class c.args.place) c.object.ensures.is) c.as_slice.ensures c.in_ok-rows.ensures.step c.in_err-members.ensures.step)
 
 pub returns-in_err-members-clause-stays : goal.returns-in_err-members-clause-stays
-returns-in_err-members-clause-stays g c = ready_stays c.args.mapping.now.schema (g.K.Keeper.moment c.read_members.new.keeper) c.from_residual-in_err-members.result c.in_ok-rows.ensures.stays
+returns-in_err-members-clause-stays g c = ready_stays (g.K.Keeper.moment c.args.keeper.now) (g.K.Keeper.moment c.read_members.new.keeper) c.from_residual-in_err-members.result c.in_ok-rows.ensures.stays
 
 pub fill_collection-requires-clause-owner : goal.fill_collection-requires-clause-owner
 fill_collection-requires-clause-owner g c = owner_there c.args.arena.now c.take_rows.new.arena c.args.owner c.in_ok-members.ensures.grows c.requires.owner
@@ -72,13 +72,25 @@ returns-clause-step g c =
     collection_loaded g.K.Keeper.moment c.args.mapping.now c.relation_at-relation.result.now (relation_of c.args.mapping.now (object_at c.args.arena.now c.args.owner).class c.args.place) c.args.owner c.args.place
     c.in_ok-rows.rows c.as_slice.result.now c.in_ok-members.members c.as_slice-2.result.now
     (c.relation_at-relation.ensures ∙ ap (λ (o : Object). relation_of c.args.mapping.now o.class c.args.place) c.object.ensures.is) c.as_slice.ensures c.as_slice-2.ensures
-    c.in_ok-rows.ensures.step c.in_ok-members.ensures.step c.fill_collection.ensures.filled c.fill_collection.ensures.cause
+    c.in_ok-rows.ensures.step c.in_ok-members.ensures.step c.in_ok-fill_collection.ensures.filled tt
 
-pub returns-clause-stays : goal.returns-clause-stays
-returns-clause-stays g c = ready_stays c.args.mapping.now.schema (g.K.Keeper.moment c.read_members.new.keeper) c.fill_collection.result c.in_ok-rows.ensures.stays
+pub returns-in_err-fill_collection-clause-step : goal.returns-in_err-fill_collection-clause-step
+returns-in_err-fill_collection-clause-step g c =
+    passed_on c.from_residual-in_err-fill_collection.ensures.1
+    (collection_loaded g.K.Keeper.moment c.args.mapping.now c.relation_at-relation.result.now (relation_of c.args.mapping.now (object_at c.args.arena.now c.args.owner).class c.args.place) c.args.owner c.args.place
+    c.in_ok-rows.rows c.as_slice.result.now c.in_ok-members.members c.as_slice-2.result.now
+    (c.relation_at-relation.ensures ∙ ap (λ (o : Object). relation_of c.args.mapping.now o.class c.args.place) c.object.ensures.is) c.as_slice.ensures c.as_slice-2.ensures
+    c.in_ok-rows.ensures.step c.in_ok-members.ensures.step tt refl)
+
+pub returns-in_err-fill_collection-clause-stays : goal.returns-in_err-fill_collection-clause-stays
+returns-in_err-fill_collection-clause-stays g c =
+    passed_stays (g.K.Keeper.moment c.args.keeper.now) (g.K.Keeper.moment c.read_members.new.keeper) c.from_residual-in_err-fill_collection.result c.from_residual-in_err-fill_collection.ensures.1
 
 pub returns-clause-grows : goal.returns-clause-grows
-returns-clause-grows g c = grows_filled c.args.arena.now c.take_rows.new.arena c.fill_collection.new.arena c.in_ok-members.ensures.grows c.fill_collection.ensures.classes
+returns-clause-grows g c = grows_filled c.args.arena.now c.take_rows.new.arena c.fill_collection.new.arena c.in_ok-members.ensures.grows c.in_ok-fill_collection.ensures.classes
+
+pub returns-in_err-fill_collection-clause-grows : goal.returns-in_err-fill_collection-clause-grows
+returns-in_err-fill_collection-clause-grows g c = grows_filled c.args.arena.now c.take_rows.new.arena c.fill_collection.new.arena c.in_ok-members.ensures.grows c.in_err-fill_collection.ensures.classes
 
 pub returns-in_err-rows-clause-grows : goal.returns-in_err-rows-clause-grows
 returns-in_err-rows-clause-grows g c = grows_same c.args.arena.now c.args.arena.now refl
@@ -87,8 +99,9 @@ pub returns-in_err-members-clause-refuses : goal.returns-in_err-members-clause-r
 returns-in_err-members-clause-refuses g c =
     passed_refusal (CanRefuseRows c.args.mapping.now) _ c.from_residual-in_err-members.result c.from_residual-in_err-members.ensures.1 (of_row c.args.mapping.now _ c.in_err-members.ensures.refuses)
 
-pub returns-clause-refuses : goal.returns-clause-refuses
-returns-clause-refuses g c = lost_alone_refuses (CanRefuseRows c.args.mapping.now) c.fill_collection.result c.fill_collection.ensures.cause tt
+pub returns-in_err-fill_collection-clause-refuses : goal.returns-in_err-fill_collection-clause-refuses
+returns-in_err-fill_collection-clause-refuses g c =
+    passed_memory (CanRefuseRows c.args.mapping.now) c.from_residual-in_err-fill_collection.result c.from_residual-in_err-fill_collection.ensures.1 tt
 
 pub returns-in_err-rows-clause-refuses : goal.returns-in_err-rows-clause-refuses
 returns-in_err-rows-clause-refuses g c = passed_refusal (CanRefuseRows c.args.mapping.now) _ c.from_residual.result c.from_residual.ensures.1 c.in_err-rows.ensures.refuses

@@ -1,19 +1,18 @@
 use Rattle.std.proofs.lemmas.Result.{IfOk-weaker}
-use Rattle.keeper_core.proofs.Lifting.{no_room}
-use Rattle.keeper_core.proofs.Sequence.{passed_on}
+use Rattle.keeper_core.proofs.Sequence.{no_memory, passed_on}
 use Rattle.load_calls.specs.Refreshing.{CanRefuseCells}
 use Rattle.load_calls.proofs.ReadLemmas.{passed_memory, passed_stays}
 use Rattle.load_calls.proofs.RefreshLemmas.{all_refuse, cells_noted, cells_read}
 use Rattle.load_calls.proofs.refreshing.read_cells.Goals as goal
 
 pub returns-in_err-select-clause-step : goal.returns-in_err-select-clause-step
-returns-in_err-select-clause-step g c = passed_on c.from_residual.ensures.1 (no_room c.in_err-select.ensures.cause)
+returns-in_err-select-clause-step g c = passed_on c.from_residual.ensures.1 no_memory
 
 pub returns-in_err-select-clause-stays : goal.returns-in_err-select-clause-stays
-returns-in_err-select-clause-stays g c = passed_stays c.args.mapping.now.schema (g.K.Keeper.moment c.args.keeper.now) _ c.from_residual.result c.from_residual.ensures.1 c.in_err-select.ensures.cause
+returns-in_err-select-clause-stays g c = passed_stays (g.K.Keeper.moment c.args.keeper.now) (g.K.Keeper.moment c.args.keeper.now) c.from_residual.result c.from_residual.ensures.1
 
 pub returns-in_err-select-clause-refuses : goal.returns-in_err-select-clause-refuses
-returns-in_err-select-clause-refuses g c = passed_memory (CanRefuseCells c.args.mapping.now) _ c.from_residual.result c.from_residual.ensures.1 c.in_err-select.ensures.cause tt
+returns-in_err-select-clause-refuses g c = passed_memory (CanRefuseCells c.args.mapping.now) c.from_residual.result c.from_residual.ensures.1 tt
 
 pub returns-clause-step : goal.returns-clause-step
 returns-clause-step g c =

@@ -2,8 +2,6 @@ use Rattle.std.proofs.Common.{◌≡◌, ◌∙◌, true, ap, sym, subst}
 use Rattle.class_types.specs.declared.mapped.Relation.{Relation}
 use Rattle.class_mapping.specs.Mapped.{root_of}
 use Rattle.object_arena.specs.Fit.{end_fits}
-use Rattle.keeper_core.proofs.Lifting.{no_room}
-use Rattle.keeper_core.proofs.Sequence.{passed_on}
 use Rattle.load_rows.specs.Loading.{loading}
 use Rattle.load_ends.proofs.EndSteps.{owner_filled}
 use Rattle.load_ends.proofs.filling.fill_owner.Goals as goal
@@ -16,9 +14,6 @@ target_key-requires-clause-place c = c.requires.owner.within
 
 pub target_key-requires-clause-relation : goal.target_key-requires-clause-relation
 target_key-requires-clause-relation c = sym c.requires.owner.is
-
-pub returns-in_err-key-clause-step : goal.returns-in_err-key-clause-step
-returns-in_err-key-clause-step c = passed_on c.from_residual.ensures.1 (no_room c.in_err-key.ensures.cause)
 
 pub fill_end-requires-clause-owner : goal.fill_end-requires-clause-owner
 fill_end-requires-clause-owner c = c.requires.owner.made
@@ -36,4 +31,4 @@ fill_end-requires-clause-end c =
 pub returns-clause-step : goal.returns-clause-step
 returns-clause-step c =
     owner_filled c.args.mapping.now c.args.relation.now c.args.place c.args.owner c.in_ok-key.key c.known_end-end.result (loading c.args.arena.now c.args.notes.now) (loading c.fill_end.new.arena c.fill_end.new.notes) c.fill_end.result
-    c.in_ok-key.ensures.key c.known_end-end.ensures.end c.fill_end.ensures.filled c.fill_end.ensures.cause
+    c.in_ok-key.ensures.key c.known_end-end.ensures.end c.fill_end.ensures.filled

@@ -1,5 +1,5 @@
-use Rattle.std.proofs.Common.{◌≡◌, ◌∙◌, refl, rules}
-use Rattle.keeper_core.proofs.Sequence.{each_end, each_err, each_turn, passed_on}
+use Rattle.std.proofs.Common.{◌∙◌, refl, rules}
+use Rattle.keeper_core.proofs.Sequence.{each_end, each_turn}
 use Rattle.load_rows.specs.Loading.{loading}
 use Rattle.load_targets.proofs.TargetLemmas.{same_grow}
 use Rattle.load_ends.specs.Ends.{fill_owner}
@@ -17,11 +17,6 @@ pub fill_owner-requires-clause-owner : goal.fill_owner-requires-clause-owner
 fill_owner-requires-clause-owner c =
     children_still c.args.mapping.now c.args.arena.now c.loop-owner.arena c.args.relation.now c.args.place c.args.owners.now (same_grow c.args.arena.now c.loop-owner.arena c.loop-owner.invariant.classes) c.requires.owners c.loop-owner.owner-index _
     c.loop-owner-test.true
-
-pub returns-in_err-fill_owner-clause-step : goal.returns-in_err-fill_owner-clause-step
-returns-in_err-fill_owner-clause-step c =
-    passed_on c.from_residual.ensures.1
-    (each_err (fill_owner c.args.mapping.now c.args.relation.now c.args.place) c.args.owners.now c.loop-owner.owner-index c.loop-owner.invariant.step c.loop-owner-test.true (search rules) c.in_err-fill_owner.ensures.step)
 
 pub returns-in_err-fill_owner-clause-classes : goal.returns-in_err-fill_owner-clause-classes
 returns-in_err-fill_owner-clause-classes c = c.in_err-fill_owner.ensures.classes ∙ c.loop-owner.invariant.classes

@@ -8,4 +8,4 @@ pub returns-clause-keys : goal.returns-clause-keys
 returns-clause-keys c = new_first c.args.seen.now c.args.keys.now c.push.new.self c.args.key c.contains.result c.push.result c.requires c.contains.ensures c.if-contains.false c.push.ensures.ok
 
 pub returns-clause-seen : goal.returns-clause-seen
-returns-clause-seen c = seen_more c.args.seen.now c.enter.new.seen c.args.keys.now c.push.new.self c.args.key c.push.result c.requires c.in_ok-enter.ensures.seen c.push.ensures.ok
+returns-clause-seen c = seen_more c.args.seen.now c.enter.new.seen c.args.keys.now c.push.new.self c.args.key c.push.result c.requires c.in_ok-enter.ensures c.push.ensures.ok

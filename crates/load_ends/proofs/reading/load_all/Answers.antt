@@ -1,6 +1,5 @@
 use Rattle.std.proofs.Common.{refl}
-use Rattle.keeper_core.proofs.Lifting.{no_room}
-use Rattle.keeper_core.proofs.Sequence.{passed_on}
+use Rattle.keeper_core.proofs.Sequence.{no_memory, passed_on}
 use Rattle.load_filling.proofs.LoadedLemmas.{grows_same}
 use Rattle.load_calls.proofs.ReadLemmas.{passed_memory, passed_stays}
 use Rattle.load_calls.specs.Refusals.{CanRefuseRows}
@@ -8,17 +7,17 @@ use Rattle.load_ends.proofs.ReadSteps.{batches_read}
 use Rattle.load_ends.proofs.reading.load_all.Goals as goal
 
 pub returns-in_err-starts-clause-stays : goal.returns-in_err-starts-clause-stays
-returns-in_err-starts-clause-stays g c = passed_stays c.args.mapping.now.schema (g.K.Keeper.moment c.args.keeper.now) _ c.from_residual.result c.from_residual.ensures.1 c.in_err-starts.ensures.cause
+returns-in_err-starts-clause-stays g c = passed_stays (g.K.Keeper.moment c.args.keeper.now) (g.K.Keeper.moment c.args.keeper.now) c.from_residual.result c.from_residual.ensures.1
 
 pub returns-in_err-starts-clause-grows : goal.returns-in_err-starts-clause-grows
 returns-in_err-starts-clause-grows g c = grows_same c.args.arena.now c.args.arena.now refl
 
 pub returns-in_err-starts-clause-refuses : goal.returns-in_err-starts-clause-refuses
-returns-in_err-starts-clause-refuses g c = passed_memory (CanRefuseRows c.args.mapping.now) _ c.from_residual.result c.from_residual.ensures.1 c.in_err-starts.ensures.cause tt
+returns-in_err-starts-clause-refuses g c = passed_memory (CanRefuseRows c.args.mapping.now) c.from_residual.result c.from_residual.ensures.1 tt
 
 pub returns-in_err-starts-clause-step : goal.returns-in_err-starts-clause-step
-returns-in_err-starts-clause-step g c = passed_on c.from_residual.ensures.1 (no_room c.in_err-starts.ensures.cause)
+returns-in_err-starts-clause-step g c = passed_on c.from_residual.ensures.1 no_memory
 
 pub returns-clause-step : goal.returns-clause-step
 returns-clause-step g c =
-    batches_read g.K.Keeper.moment c.args.mapping.now c.args.class c.args.keys.now c.in_ok-starts.starts.items c.as_slice.result.now c.in_ok-starts.ensures.starts c.as_slice.ensures.value c.load_each.ensures.step
+    batches_read g.K.Keeper.moment c.args.mapping.now c.args.class c.args.keys.now c.in_ok-starts.starts.items c.as_slice.result.now c.in_ok-starts.ensures c.as_slice.ensures.value c.load_each.ensures.step

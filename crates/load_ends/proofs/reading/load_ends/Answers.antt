@@ -1,8 +1,7 @@
 use Rattle.std.proofs.Common.{refl, subst, sym, List}
 use Rattle.std.specs.List.{All}
 use Rattle.base_core.specs.declared.ids.ObjId.{ObjId}
-use Rattle.keeper_core.proofs.Lifting.{no_room}
-use Rattle.keeper_core.proofs.Sequence.{passed_on}
+use Rattle.keeper_core.proofs.Sequence.{no_memory, passed_on}
 use Rattle.load_filling.proofs.LoadedLemmas.{grows_same}
 use Rattle.load_calls.proofs.ReadLemmas.{passed_memory, passed_stays}
 use Rattle.load_calls.specs.Refusals.{CanRefuseRows}
@@ -11,16 +10,16 @@ use Rattle.load_ends.proofs.ReadSteps.{ends_loaded}
 use Rattle.load_ends.proofs.reading.load_ends.Goals as goal
 
 pub returns-in_err-unread-clause-step : goal.returns-in_err-unread-clause-step
-returns-in_err-unread-clause-step g c = passed_on c.from_residual.ensures.1 (no_room c.in_err-unread.ensures.cause)
+returns-in_err-unread-clause-step g c = passed_on c.from_residual.ensures.1 no_memory
 
 pub returns-in_err-unread-clause-stays : goal.returns-in_err-unread-clause-stays
-returns-in_err-unread-clause-stays g c = passed_stays c.args.mapping.now.schema (g.K.Keeper.moment c.args.keeper.now) _ c.from_residual.result c.from_residual.ensures.1 c.in_err-unread.ensures.cause
+returns-in_err-unread-clause-stays g c = passed_stays (g.K.Keeper.moment c.args.keeper.now) (g.K.Keeper.moment c.args.keeper.now) c.from_residual.result c.from_residual.ensures.1
 
 pub returns-in_err-unread-clause-grows : goal.returns-in_err-unread-clause-grows
 returns-in_err-unread-clause-grows g c = grows_same c.args.arena.now c.args.arena.now refl
 
 pub returns-in_err-unread-clause-refuses : goal.returns-in_err-unread-clause-refuses
-returns-in_err-unread-clause-refuses g c = passed_memory (CanRefuseRows c.args.mapping.now) _ c.from_residual.result c.from_residual.ensures.1 c.in_err-unread.ensures.cause tt
+returns-in_err-unread-clause-refuses g c = passed_memory (CanRefuseRows c.args.mapping.now) c.from_residual.result c.from_residual.ensures.1 tt
 
 pub load_unloaded-requires-clause-owners : goal.load_unloaded-requires-clause-owners
 load_unloaded-requires-clause-owners g c =

@@ -36,7 +36,7 @@ returns-clause-step g c =
     c.take_targets.ensures.step
 
 pub returns-clause-stays : goal.returns-clause-stays
-returns-clause-stays g c = ready_stays c.args.mapping.now.schema (g.K.Keeper.moment c.read_keys.new.keeper) c.take_targets.result c.in_ok-rows.ensures.stays
+returns-clause-stays g c = ready_stays (g.K.Keeper.moment c.args.keeper.now) (g.K.Keeper.moment c.read_keys.new.keeper) c.take_targets.result c.in_ok-rows.ensures.stays
 
 pub returns-clause-refuses : goal.returns-clause-refuses
 returns-clause-refuses g c = refused_rows c.args.mapping.now c.take_targets.result c.take_targets.ensures.refuses

@@ -1,29 +1,28 @@
 use Rattle.std.proofs.Common.{refl, subst, sym, List}
 use Rattle.std.specs.List.{All}
 use Rattle.base_core.specs.declared.value.Value.{Value}
-use Rattle.keeper_core.proofs.Lifting.{no_room}
-use Rattle.keeper_core.proofs.Sequence.{passed_on}
+use Rattle.keeper_core.proofs.Sequence.{no_memory, passed_on}
 use Rattle.load_filling.proofs.LoadedLemmas.{grows_same}
 use Rattle.load_rows.proofs.TakenLemmas.{grows_filled}
-use Rattle.load_calls.proofs.ReadLemmas.{passed_memory, passed_refusal, passed_stays, ready_stays}
+use Rattle.load_calls.proofs.ReadLemmas.{passed_memory, passed_refusal, passed_stays}
 use Rattle.load_calls.specs.Refusals.{CanRefuseRows}
-use Rattle.load_calls.proofs.RefusalLemmas.{lost_alone_refuses}
 use Rattle.load_ends.specs.Ends.{FitsClass}
 use Rattle.load_ends.proofs.EndSteps.{children_still}
 use Rattle.load_ends.proofs.ReadSteps.{links_filled, links_refused}
+use Rattle.keeper_core.proofs.AloneLemmas.{lost_alone}
 use Rattle.load_ends.proofs.reading.load_unloaded.Goals as goal
 
 pub returns-in_err-keys-clause-step : goal.returns-in_err-keys-clause-step
-returns-in_err-keys-clause-step g c = passed_on c.from_residual.ensures.1 (no_room c.in_err-keys.ensures.cause)
+returns-in_err-keys-clause-step g c = passed_on c.from_residual.ensures.1 no_memory
 
 pub returns-in_err-keys-clause-stays : goal.returns-in_err-keys-clause-stays
-returns-in_err-keys-clause-stays g c = passed_stays c.args.mapping.now.schema (g.K.Keeper.moment c.args.keeper.now) _ c.from_residual.result c.from_residual.ensures.1 c.in_err-keys.ensures.cause
+returns-in_err-keys-clause-stays g c = passed_stays (g.K.Keeper.moment c.args.keeper.now) (g.K.Keeper.moment c.args.keeper.now) c.from_residual.result c.from_residual.ensures.1
 
 pub returns-in_err-keys-clause-grows : goal.returns-in_err-keys-clause-grows
 returns-in_err-keys-clause-grows g c = grows_same c.args.arena.now c.args.arena.now refl
 
 pub returns-in_err-keys-clause-refuses : goal.returns-in_err-keys-clause-refuses
-returns-in_err-keys-clause-refuses g c = passed_memory (CanRefuseRows c.args.mapping.now) _ c.from_residual.result c.from_residual.ensures.1 c.in_err-keys.ensures.cause tt
+returns-in_err-keys-clause-refuses g c = passed_memory (CanRefuseRows c.args.mapping.now) c.from_residual.result c.from_residual.ensures.1 tt
 
 pub load_all-requires-clause-class : goal.load_all-requires-clause-class
 load_all-requires-clause-class g c = c.requires.related.target
@@ -42,16 +41,26 @@ fill_owners-requires-clause-owners g c = children_still c.args.mapping.now c.arg
 pub returns-clause-step : goal.returns-clause-step
 returns-clause-step g c =
     links_filled g.K.Keeper.moment c.args.mapping.now c.args.relation.now c.args.place c.args.arena.now c.args.owners.now c.in_ok-keys.keys c.as_slice.result.now c.in_ok-keys.ensures.keys c.as_slice.ensures c.in_ok-load_all.ensures.step
-    c.fill_owners.ensures.step
+    c.in_ok-fill_owners.ensures.step
 
-pub returns-clause-stays : goal.returns-clause-stays
-returns-clause-stays g c = ready_stays c.args.mapping.now.schema (g.K.Keeper.moment c.load_all.new.keeper) c.fill_owners.result c.in_ok-load_all.ensures.stays
+pub returns-in_err-fill_owners-clause-step : goal.returns-in_err-fill_owners-clause-step
+returns-in_err-fill_owners-clause-step g c =
+    passed_on c.from_residual-in_err-fill_owners.ensures.1
+    (links_filled g.K.Keeper.moment c.args.mapping.now c.args.relation.now c.args.place c.args.arena.now c.args.owners.now c.in_ok-keys.keys c.as_slice.result.now c.in_ok-keys.ensures.keys c.as_slice.ensures c.in_ok-load_all.ensures.step
+    (lost_alone refl))
+
+pub returns-in_err-fill_owners-clause-stays : goal.returns-in_err-fill_owners-clause-stays
+returns-in_err-fill_owners-clause-stays g c =
+    passed_stays (g.K.Keeper.moment c.args.keeper.now) (g.K.Keeper.moment c.load_all.new.keeper) c.from_residual-in_err-fill_owners.result c.from_residual-in_err-fill_owners.ensures.1
 
 pub returns-clause-grows : goal.returns-clause-grows
-returns-clause-grows g c = grows_filled c.args.arena.now c.load_all.new.arena c.fill_owners.new.arena c.in_ok-load_all.ensures.grows c.fill_owners.ensures.classes
+returns-clause-grows g c = grows_filled c.args.arena.now c.load_all.new.arena c.fill_owners.new.arena c.in_ok-load_all.ensures.grows c.in_ok-fill_owners.ensures.classes
 
-pub returns-clause-refuses : goal.returns-clause-refuses
-returns-clause-refuses g c = lost_alone_refuses (CanRefuseRows c.args.mapping.now) c.fill_owners.result c.fill_owners.ensures.cause tt
+pub returns-in_err-fill_owners-clause-grows : goal.returns-in_err-fill_owners-clause-grows
+returns-in_err-fill_owners-clause-grows g c = grows_filled c.args.arena.now c.load_all.new.arena c.fill_owners.new.arena c.in_ok-load_all.ensures.grows c.in_err-fill_owners.ensures.classes
+
+pub returns-in_err-fill_owners-clause-refuses : goal.returns-in_err-fill_owners-clause-refuses
+returns-in_err-fill_owners-clause-refuses g c = passed_memory (CanRefuseRows c.args.mapping.now) c.from_residual-in_err-fill_owners.result c.from_residual-in_err-fill_owners.ensures.1 tt
 
 pub returns-in_err-load_all-clause-refuses : goal.returns-in_err-load_all-clause-refuses
 returns-in_err-load_all-clause-refuses g c = passed_refusal (CanRefuseRows c.args.mapping.now) _ c.from_residual-in_err-load_all.result c.from_residual-in_err-load_all.ensures.1 c.in_err-load_all.ensures.refuses

@@ -4,7 +4,7 @@ use Rattle.load_ends.proofs.reading.select_of_keys.Goals as goal
 
 pub returns-clause-plain : goal.returns-clause-plain
 returns-clause-plain c =
-    keys_plain c.args.mapping.now c.args.class c.args.keys.now c.targets_select.result (c.has_hierarchies.ensures.hierarchies c.requires.configured) c.requires.class c.requires.some c.requires.keys c.targets_select.ensures.select
+    keys_plain c.args.mapping.now c.args.class c.args.keys.now c.targets_select.result c.schema.ensures.configured.hierarchies c.requires.class c.requires.some c.requires.keys c.targets_select.ensures
 
 pub returns-clause-hierarchies : goal.returns-clause-hierarchies
-returns-clause-hierarchies c = has_told c.args.mapping.now c.targets_select.result (c.has_hierarchies.ensures.hierarchies c.requires.configured)
+returns-clause-hierarchies c = has_told c.args.mapping.now c.targets_select.result c.schema.ensures.configured.hierarchies

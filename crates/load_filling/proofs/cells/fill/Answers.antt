@@ -12,7 +12,7 @@ fill_cell-requires-clause-object c = object_there c.args.arena.now c.loop-place.
 pub fill_cell-requires-clause-attr : goal.fill_cell-requires-clause-attr
 fill_cell-requires-clause-attr c =
     let less : c.loop-place.place < length (object_at c.args.arena.now c.args.object).cells = subst (λ (n : ℕ). c.loop-place.place < n) c.cell_count-count.ensures c.loop-place-test.true in
-    cell_there c.args.arena.now c.loop-place.arena c.args.object c.args.found.now c.loop-place.place (record { 0 = c.in_ok-number.number }) c.loop-place.invariant.graph c.requires less c.in_ok-number.ensures.ok
+    cell_there c.args.arena.now c.loop-place.arena c.args.object c.args.found.now c.loop-place.place (record { 0 = c.in_ok-number.number }) c.loop-place.invariant.graph c.requires less c.in_ok-number.ensures
 
 pub loop-place-preserved : goal.loop-place-preserved
 loop-place-preserved c =
@@ -20,7 +20,7 @@ loop-place-preserved c =
     record {
       graph =
           next_filled c.args.arena.now c.loop-place.arena c.fill_cell.new.arena c.args.object c.args.found.now c.loop-place.place (record { 0 = c.in_ok-number.number }) c.loop-place.invariant.graph c.requires less
-          c.in_ok-number.ensures.ok c.in_ok-fill_cell.ensures.filled;
+          c.in_ok-number.ensures c.in_ok-fill_cell.ensures.filled;
       keeps =
           next_keeps c.args.arena.now c.loop-place.arena c.fill_cell.new.arena c.args.object c.args.found.now c.loop-place.place c.loop-place.invariant.graph c.requires c.loop-place.invariant.keeps
           c.in_ok-fill_cell.ensures.keeps;

@@ -7,6 +7,5 @@ use Rattle.load_lines.proofs.store.insert.Goals as goal
 
 pub returns-in-Ok : goal.returns-in-Ok
 returns-in-Ok g c =
-    subst (λ (r : Result (List (List Value)) Refusal). OnOk r (IsOpen c.args.schema.now 1 (g.K.Keeper.moment c.write.new.keeper))) c.in-Ok.is
-    (written_open g.K.Keeper.moment c.args.schema.now c.in_ok-statement.statement 1 c.args.keeper.now c.write.new.keeper c.write.result c.in_ok-statement.ensures (g.met.K.Keeper.coherent c.args.keeper.now)
-    (g.met.K.Keeper.coherent c.write.new.keeper) c.requires c.write.ensures.call)
+    subst (λ (r : Result (List (List Value)) Refusal). OnOk r (IsOpen 1 (g.K.Keeper.moment c.write.new.keeper))) c.in-Ok.is
+    (written_open g.K.Keeper.moment c.args.schema.now c.in_ok-statement.statement 1 c.args.keeper.now c.write.new.keeper c.write.result c.requires c.write.ensures.call)

@@ -6,7 +6,7 @@ pub returns-clause-select : goal.returns-clause-select
 returns-clause-select c = search rules
 
 pub returns-clause-plain : goal.returns-clause-plain
-returns-clause-plain c = every_plain c.args.mapping.now c.args.class c.class_rows.result (c.has_hierarchies.ensures.hierarchies c.requires.configured) c.requires.class (returns-clause-select c)
+returns-clause-plain c = every_plain c.args.mapping.now c.args.class c.class_rows.result c.schema.ensures.configured.hierarchies c.requires.class (returns-clause-select c)
 
 pub returns-clause-reads : goal.returns-clause-reads
-returns-clause-reads c = every_read c.args.mapping.now c.args.class c.class_rows.result (c.has_hierarchies.ensures.hierarchies c.requires.configured) c.requires.class (returns-clause-select c)
+returns-clause-reads c = every_read c.args.mapping.now c.args.class c.class_rows.result c.schema.ensures.configured.hierarchies c.requires.class (returns-clause-select c)

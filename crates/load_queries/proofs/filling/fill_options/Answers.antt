@@ -1,11 +1,10 @@
-use Rattle.std.proofs.Common.{◌≡◌, ◌∙◌, List, refl, rules}
+use Rattle.std.proofs.Common.{◌∙◌, List, refl, rules}
 use Rattle.std.specs.List.{All}
 use Rattle.std.proofs.lemmas.List.{drop_all}
 use Rattle.base_core.specs.declared.ids.ClassId.{ClassId}
-use Rattle.keeper_core.proofs.Sequence.{passed_on}
 use Rattle.load_rows.specs.Loading.{loading}
 use Rattle.joined_rows.specs.Taking.{IsTaken}
-use Rattle.load_queries.proofs.FillSteps.{option_done, option_lost, options_done, options_start, owners_stay, still_said, taken_give}
+use Rattle.load_queries.proofs.FillSteps.{option_done, options_done, options_start, owners_stay, still_said, taken_give}
 use Rattle.load_queries.proofs.filling.fill_options.Goals as goal
 
 pub loop-number-init : goal.loop-number-init
@@ -22,12 +21,6 @@ fill_option-requires-clause-of c =
 
 pub fill_option-requires-clause-owners : goal.fill_option-requires-clause-owners
 fill_option-requires-clause-owners c = owners_stay c.args.mapping.now c.args.arena.now c.loop-number.arena c.args.class c.args.owners.now c.loop-number.invariant.classes c.requires.owners
-
-pub returns-in_err-fill_option-clause-step : goal.returns-in_err-fill_option-clause-step
-returns-in_err-fill_option-clause-step c =
-    passed_on c.from_residual.ensures.1
-    (option_lost c.args.mapping.now c.args.class c.args.parts.now c.args.taken.now c.args.owners.now (loading c.args.arena.now c.args.notes.now) (loading c.loop-number.arena c.loop-number.notes) (loading c.fill_option.new.arena c.fill_option.new.notes)
-    c.loop-number.number _ _ c.loop-number.invariant.step c.loop-number-test.true (search rules) c.in_err-fill_option.ensures.step)
 
 pub returns-in_err-fill_option-clause-classes : goal.returns-in_err-fill_option-clause-classes
 returns-in_err-fill_option-clause-classes c = c.in_err-fill_option.ensures.classes ∙ c.loop-number.invariant.classes

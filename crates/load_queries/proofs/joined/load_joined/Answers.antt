@@ -1,8 +1,7 @@
 use Rattle.std.proofs.Common.{refl, subst, sym}
 use Rattle.std.specs.List.{All}
 use Rattle.class_mapping.specs.Mapped.{IsClass}
-use Rattle.keeper_core.proofs.Lifting.{no_room}
-use Rattle.keeper_core.proofs.Sequence.{passed_on}
+use Rattle.keeper_core.proofs.Sequence.{no_memory, passed_on}
 use Rattle.load_filling.proofs.LoadedLemmas.{grows_same}
 use Rattle.load_calls.proofs.ReadLemmas.{passed_memory, passed_refusal, passed_stays, ready_stays}
 use Rattle.load_calls.specs.Refusals.{CanRefuseRows}
@@ -12,16 +11,16 @@ use Rattle.load_queries.proofs.AnswerSteps.{joined_loaded, joined_refused, rows_
 use Rattle.load_queries.proofs.joined.load_joined.Goals as goal
 
 pub returns-in_err-parts-clause-step : goal.returns-in_err-parts-clause-step
-returns-in_err-parts-clause-step g c = passed_on c.from_residual.ensures.1 (no_room c.in_err-parts.ensures.cause)
+returns-in_err-parts-clause-step g c = passed_on c.from_residual.ensures.1 no_memory
 
 pub returns-in_err-parts-clause-stays : goal.returns-in_err-parts-clause-stays
-returns-in_err-parts-clause-stays g c = passed_stays c.args.mapping.now.schema (g.K.Keeper.moment c.args.keeper.now) _ c.from_residual.result c.from_residual.ensures.1 c.in_err-parts.ensures.cause
+returns-in_err-parts-clause-stays g c = passed_stays (g.K.Keeper.moment c.args.keeper.now) (g.K.Keeper.moment c.args.keeper.now) c.from_residual.result c.from_residual.ensures.1
 
 pub returns-in_err-parts-clause-grows : goal.returns-in_err-parts-clause-grows
 returns-in_err-parts-clause-grows g c = grows_same c.args.arena.now c.args.arena.now refl
 
 pub returns-in_err-parts-clause-refuses : goal.returns-in_err-parts-clause-refuses
-returns-in_err-parts-clause-refuses g c = passed_memory (CanRefuseRows c.args.mapping.now) _ c.from_residual.result c.from_residual.ensures.1 c.in_err-parts.ensures.cause tt
+returns-in_err-parts-clause-refuses g c = passed_memory (CanRefuseRows c.args.mapping.now) c.from_residual.result c.from_residual.ensures.1 tt
 
 pub returns-in_err-rows-clause-step : goal.returns-in_err-rows-clause-step
 returns-in_err-rows-clause-step g c =
@@ -49,7 +48,7 @@ returns-clause-step g c =
     (c.in_ok-rows.ensures.step c.args.arena.now) c.take_answers.ensures.step
 
 pub returns-clause-stays : goal.returns-clause-stays
-returns-clause-stays g c = ready_stays c.args.mapping.now.schema (g.K.Keeper.moment c.read_rows.new.keeper) c.take_answers.result c.in_ok-rows.ensures.stays
+returns-clause-stays g c = ready_stays (g.K.Keeper.moment c.args.keeper.now) (g.K.Keeper.moment c.read_rows.new.keeper) c.take_answers.result c.in_ok-rows.ensures.stays
 
 pub returns-clause-refuses : goal.returns-clause-refuses
 returns-clause-refuses g c = refused_rows c.args.mapping.now c.take_answers.result c.take_answers.ensures.refuses

@@ -10,11 +10,11 @@ parts_of-requires-clause-places c =
     subst (λ (places : List RelNo). All (λ place. place.0 < length (relations_of c.args.mapping.now c.args.query.now.class)) places) (sym c.as_slice.ensures) c.requires.options
 
 pub returns-clause-parts : goal.returns-clause-parts
-returns-clause-parts c = seen_parts c.args.mapping.now c.args.query.now.class c.args.query.now.joined c.as_slice.result.now c.parts_of.result c.as_slice.ensures c.parts_of.ensures.parts
+returns-clause-parts c = seen_parts c.args.mapping.now c.args.query.now.class c.args.query.now.joined c.as_slice.result.now c.parts_of.result c.as_slice.ensures c.parts_of.ensures
 
 pub returns-clause-of : goal.returns-clause-of
 returns-clause-of c = parts_told c.args.mapping.now c.args.query.now.class c.args.query.now.joined c.parts_of.result c.requires.options (returns-clause-parts c)
 
 pub returns-clause-targets : goal.returns-clause-targets
 returns-clause-targets c =
-    targets_told c.args.mapping.now c.args.query.now.class c.args.query.now.joined c.parts_of.result (c.is_configured.ensures.related c.requires.configured) c.requires.class c.requires.options (returns-clause-parts c)
+    targets_told c.args.mapping.now c.args.query.now.class c.args.query.now.joined c.parts_of.result c.schema.ensures.configured.related c.requires.class c.requires.options (returns-clause-parts c)

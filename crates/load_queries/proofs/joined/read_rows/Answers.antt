@@ -1,8 +1,6 @@
-use Rattle.std.proofs.Common.{subst, sym, List}
-use Rattle.expr_types.specs.declared.select.Select.{Select}
+use Rattle.std.proofs.Common.{subst, sym}
 use Rattle.sql_semantics.specs.Plain.{IsPlainSelect}
-use Rattle.keeper_core.proofs.Lifting.{no_room}
-use Rattle.keeper_core.proofs.Sequence.{passed_on}
+use Rattle.keeper_core.proofs.Sequence.{no_memory, passed_on}
 use Rattle.load_calls.proofs.ReadLemmas.{passed_memory, passed_stays}
 use Rattle.load_calls.specs.Refusals.{CanRefuseRows}
 use Rattle.load_calls.proofs.RefusalLemmas.{refused_select}
@@ -10,24 +8,24 @@ use Rattle.load_queries.proofs.AnswerSteps.{main_read, rows_told}
 use Rattle.load_queries.proofs.joined.read_rows.Goals as goal
 
 pub returns-in_err-wanted-clause-step : goal.returns-in_err-wanted-clause-step
-returns-in_err-wanted-clause-step g c = λ graph. passed_on c.from_residual.ensures.1 (no_room c.in_err-wanted.ensures.cause)
+returns-in_err-wanted-clause-step g c = λ graph. passed_on c.from_residual.ensures.1 no_memory
 
 pub returns-in_err-wanted-clause-stays : goal.returns-in_err-wanted-clause-stays
-returns-in_err-wanted-clause-stays g c = passed_stays c.args.mapping.now.schema (g.K.Keeper.moment c.args.keeper.now) _ c.from_residual.result c.from_residual.ensures.1 c.in_err-wanted.ensures.cause
+returns-in_err-wanted-clause-stays g c = passed_stays (g.K.Keeper.moment c.args.keeper.now) (g.K.Keeper.moment c.args.keeper.now) c.from_residual.result c.from_residual.ensures.1
 
 pub returns-in_err-wanted-clause-refuses : goal.returns-in_err-wanted-clause-refuses
-returns-in_err-wanted-clause-refuses g c = passed_memory (CanRefuseRows c.args.mapping.now) _ c.from_residual.result c.from_residual.ensures.1 c.in_err-wanted.ensures.cause tt
+returns-in_err-wanted-clause-refuses g c = passed_memory (CanRefuseRows c.args.mapping.now) c.from_residual.result c.from_residual.ensures.1 tt
 
 pub read-requires-clause-plain : goal.read-requires-clause-plain
-read-requires-clause-plain g c = subst (IsPlainSelect c.args.mapping.now.schema) (sym c.in_ok-wanted.ensures.select) c.requires.plain
+read-requires-clause-plain g c = subst (IsPlainSelect c.args.mapping.now.schema) (sym c.in_ok-wanted.ensures) c.requires.plain
 
 pub returns-clause-step : goal.returns-clause-step
-returns-clause-step g c = λ graph. main_read g.K.Keeper.moment c.args.mapping.now c.args.query.now c.in_ok-wanted.wanted graph c.in_ok-wanted.ensures.select (c.read.ensures.step graph)
+returns-clause-step g c = λ graph. main_read g.K.Keeper.moment c.args.mapping.now c.args.query.now c.in_ok-wanted.wanted graph c.in_ok-wanted.ensures (c.read.ensures.step graph)
 
 pub returns-clause-rows : goal.returns-clause-rows
 returns-clause-rows g c =
-    rows_told c.args.mapping.now c.args.query.now c.in_ok-wanted.wanted c.read.result c.in_ok-wanted.ensures.select
-    (λ rows kinds given. c.rows_have_parts.ensures c.args.mapping.now c.args.query.now c.requires.reads.more rows (c.has_hierarchies.ensures.hierarchies c.requires.configured) (c.is_configured.ensures.related c.requires.configured)
+    rows_told c.args.mapping.now c.args.query.now c.in_ok-wanted.wanted c.read.result c.in_ok-wanted.ensures
+    (λ rows kinds given. c.rows_have_parts.ensures c.args.mapping.now c.args.query.now c.requires.reads.more rows c.schema.ensures.configured.hierarchies c.schema.ensures.configured.related
     c.requires.class c.requires.options c.requires.reads.items c.requires.reads.sources kinds given)
     c.read.ensures.kinds c.read.ensures.given
 

@@ -1,13 +1,14 @@
-use Rattle.std.proofs.Common.{subst, sym}
+use Rattle.std.proofs.Common.{Err, refl, subst, sym}
 use Rattle.std.specs.List.{All}
 use Rattle.keeper_core.proofs.Sequence.{passed_on}
 use Rattle.load_rows.specs.Loading.{loading}
 use Rattle.load_rows.proofs.TakenLemmas.{grows_filled}
-use Rattle.load_calls.proofs.ReadLemmas.{passed_refusal}
+use Rattle.load_calls.proofs.ReadLemmas.{passed_memory, passed_refusal}
 use Rattle.load_calls.specs.Refusals.{CanRefuseRow}
-use Rattle.load_calls.proofs.RefusalLemmas.{lost_alone_refuses}
 use Rattle.joined_rows.specs.Taking.{IsTaken}
 use Rattle.load_queries.proofs.AnswerSteps.{answers_refused, answers_taken}
+use Rattle.keeper_core.proofs.AloneLemmas.{lost_alone}
+use Rattle.base_core.specs.declared.refusal.Refusal.TheVariants.{Memory}
 use Rattle.load_queries.proofs.joined.take_answers.Goals as goal
 
 pub returns-in_err-taken-clause-step : goal.returns-in_err-taken-clause-step
@@ -24,10 +25,19 @@ fill_taken-requires-clause-taken c = subst (All (IsTaken c.args.mapping.now c.ta
 pub returns-clause-step : goal.returns-clause-step
 returns-clause-step c =
     answers_taken c.args.mapping.now c.args.class c.args.parts.now c.args.rows.now c.in_ok-taken.taken c.as_slice.result.now (loading c.args.arena.now c.args.notes.now) (loading c.take_joined.new.arena c.take_joined.new.notes)
-    (loading c.fill_taken.new.arena c.fill_taken.new.notes) c.fill_taken.result c.as_slice.ensures c.in_ok-taken.ensures.step c.fill_taken.ensures.step
+    (loading c.fill_taken.new.arena c.fill_taken.new.notes) _ c.as_slice.ensures c.in_ok-taken.ensures.step c.in_ok-fill_taken.ensures.step
+
+pub returns-in_err-fill_taken-clause-step : goal.returns-in_err-fill_taken-clause-step
+returns-in_err-fill_taken-clause-step c =
+    passed_on c.from_residual-in_err-fill_taken.ensures.1
+    (answers_taken c.args.mapping.now c.args.class c.args.parts.now c.args.rows.now c.in_ok-taken.taken c.as_slice.result.now (loading c.args.arena.now c.args.notes.now) (loading c.take_joined.new.arena c.take_joined.new.notes)
+    (loading c.fill_taken.new.arena c.fill_taken.new.notes) (Err Memory) c.as_slice.ensures c.in_ok-taken.ensures.step (lost_alone refl))
 
 pub returns-clause-grows : goal.returns-clause-grows
-returns-clause-grows c = grows_filled c.args.arena.now c.take_joined.new.arena c.fill_taken.new.arena c.in_ok-taken.ensures.grows c.fill_taken.ensures.classes
+returns-clause-grows c = grows_filled c.args.arena.now c.take_joined.new.arena c.fill_taken.new.arena c.in_ok-taken.ensures.grows c.in_ok-fill_taken.ensures.classes
 
-pub returns-clause-refuses : goal.returns-clause-refuses
-returns-clause-refuses c = lost_alone_refuses CanRefuseRow c.fill_taken.result c.fill_taken.ensures.cause tt
+pub returns-in_err-fill_taken-clause-grows : goal.returns-in_err-fill_taken-clause-grows
+returns-in_err-fill_taken-clause-grows c = grows_filled c.args.arena.now c.take_joined.new.arena c.fill_taken.new.arena c.in_ok-taken.ensures.grows c.in_err-fill_taken.ensures.classes
+
+pub returns-in_err-fill_taken-clause-refuses : goal.returns-in_err-fill_taken-clause-refuses
+returns-in_err-fill_taken-clause-refuses c = passed_memory CanRefuseRow c.from_residual-in_err-fill_taken.result c.from_residual-in_err-fill_taken.ensures.1 tt

@@ -7,7 +7,7 @@ use Rattle.object_arena.specs.Graph.{IsObject}
 use Rattle.keeper_core.proofs.Sequence.{passed_on}
 use Rattle.load_calls.proofs.RowsLemmas.{grows_then}
 use Rattle.load_calls.specs.Refusals.{CanRefuseRows}
-use Rattle.load_calls.proofs.ReadLemmas.{passed_refusal}
+use Rattle.load_calls.proofs.ReadLemmas.{passed_refusal, passed_still, stays_then, still_then}
 use Rattle.load_rows.proofs.LinkLemmas.{are_made}
 use Rattle.load_queries.specs.Selectin.{IsOption}
 use Rattle.load_queries.proofs.KindLemmas.{objects_loaded, objects_refused, options_refused}
@@ -51,3 +51,14 @@ pub returns-clause-made : goal.returns-clause-made
 returns-clause-made g c =
     objects_still c.load_select.new.arena c.load_options.new.arena c.in_ok-objects.objects c.in_ok-load_options.ensures.grows
     (are_made c.args.mapping.now c.load_select.new.arena (root_of c.args.mapping.now c.args.query.now.class) c.in_ok-objects.objects c.in_ok-objects.ensures.fits c.in_ok-objects.ensures.of)
+
+pub load_options-requires-clause-ready : goal.load_options-requires-clause-ready
+load_options-requires-clause-ready g c = c.in_ok-objects.ensures.stays.0
+
+pub returns-in_err-load_options-clause-stays : goal.returns-in_err-load_options-clause-stays
+returns-in_err-load_options-clause-stays g c =
+    passed_still (g.K.Keeper.moment c.args.keeper.now) (g.K.Keeper.moment c.load_options.new.keeper) _ c.from_residual-in_err-load_options.result c.from_residual-in_err-load_options.ensures.1
+    (stays_then (g.K.Keeper.moment c.args.keeper.now) (g.K.Keeper.moment c.load_select.new.keeper) (g.K.Keeper.moment c.load_options.new.keeper) _ c.in_ok-objects.ensures.stays c.in_err-load_options.ensures.stays)
+
+pub returns-clause-stays : goal.returns-clause-stays
+returns-clause-stays g c = still_then (g.K.Keeper.moment c.args.keeper.now) (g.K.Keeper.moment c.load_select.new.keeper) (g.K.Keeper.moment c.load_options.new.keeper) c.in_ok-objects.ensures.stays c.in_ok-load_options.ensures.stays

@@ -1,6 +1,5 @@
 use Rattle.std.proofs.Common.{refl}
-use Rattle.keeper_core.proofs.Lifting.{no_room}
-use Rattle.keeper_core.proofs.Sequence.{passed_on}
+use Rattle.keeper_core.proofs.Sequence.{no_memory, passed_on}
 use Rattle.load_filling.proofs.LoadedLemmas.{grows_same}
 use Rattle.load_calls.proofs.ReadLemmas.{passed_memory, passed_stays}
 use Rattle.load_calls.specs.Refusals.{CanRefuseRows}
@@ -9,20 +8,20 @@ use Rattle.load_queries.proofs.OwnerLemmas.{option_owners}
 use Rattle.load_queries.proofs.options.load_option.Goals as goal
 
 pub returns-in_err-owners-clause-step : goal.returns-in_err-owners-clause-step
-returns-in_err-owners-clause-step g c = passed_on c.from_residual.ensures.1 (no_room c.in_err-owners.ensures.cause)
+returns-in_err-owners-clause-step g c = passed_on c.from_residual.ensures.1 no_memory
 
 pub returns-in_err-owners-clause-stays : goal.returns-in_err-owners-clause-stays
-returns-in_err-owners-clause-stays g c = passed_stays c.args.mapping.now.schema (g.K.Keeper.moment c.args.keeper.now) _ c.from_residual.result c.from_residual.ensures.1 c.in_err-owners.ensures.cause
+returns-in_err-owners-clause-stays g c = passed_stays (g.K.Keeper.moment c.args.keeper.now) (g.K.Keeper.moment c.args.keeper.now) c.from_residual.result c.from_residual.ensures.1
 
 pub returns-in_err-owners-clause-grows : goal.returns-in_err-owners-clause-grows
 returns-in_err-owners-clause-grows g c = grows_same c.args.arena.now c.args.arena.now refl
 
 pub returns-in_err-owners-clause-refuses : goal.returns-in_err-owners-clause-refuses
-returns-in_err-owners-clause-refuses g c = passed_memory (CanRefuseRows c.args.mapping.now) _ c.from_residual.result c.from_residual.ensures.1 c.in_err-owners.ensures.cause tt
+returns-in_err-owners-clause-refuses g c = passed_memory (CanRefuseRows c.args.mapping.now) c.from_residual.result c.from_residual.ensures.1 tt
 
 pub load_together-requires-clause-owners : goal.load_together-requires-clause-owners
 load_together-requires-clause-owners g c =
-    option_owners c.args.mapping.now c.args.arena.now c.args.class c.args.place c.related-relation.result.now c.in_ok-owners.owners c.as_slice.result.now (c.is_configured.ensures.paired c.requires.configured) c.requires.place c.related-relation.ensures.is
+    option_owners c.args.mapping.now c.args.arena.now c.args.class c.args.place c.related-relation.result.now c.in_ok-owners.owners c.as_slice.result.now c.schema.ensures.configured.hierarchies.paired c.requires.place c.related-relation.ensures.is
     c.as_slice.ensures c.in_ok-owners.ensures.of
 
 pub returns-clause-step : goal.returns-clause-step

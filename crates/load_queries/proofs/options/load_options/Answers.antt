@@ -4,7 +4,7 @@ use Rattle.load_filling.proofs.LoadedLemmas.{grows_same}
 use Rattle.load_calls.proofs.RowsLemmas.{grows_then}
 use Rattle.load_rows.specs.Loading.{loading}
 use Rattle.load_calls.specs.Refusals.{CanRefuseRows}
-use Rattle.load_calls.proofs.ReadLemmas.{passed_refusal}
+use Rattle.load_calls.proofs.ReadLemmas.{passed_refusal, passed_still, stays_then, still_then}
 use Rattle.load_queries.specs.Selectin.{load_option}
 use Rattle.load_queries.proofs.KindLemmas.{options_start}
 use Rattle.load_queries.proofs.OwnerLemmas.{objects_still}
@@ -13,7 +13,7 @@ use Rattle.load_queries.proofs.options.load_options.Goals as goal
 pub loop-place-init : goal.loop-place-init
 loop-place-init g c = record {
   step = options_start g.K.Keeper.moment c.args.mapping.now c.args.class c.args.objects.now c.args.places.now (loading c.args.arena.now c.args.notes.now) c.args.keeper.now;
-  ready = c.requires.ready;
+  ready = (c.requires.ready, refl);
   grows = grows_same c.args.arena.now c.args.arena.now refl;
   fits = c.requires.fit;
 }
@@ -33,7 +33,7 @@ pub loop-place-preserved : goal.loop-place-preserved
 loop-place-preserved g c = record {
   step =
       each_turn (load_option c.args.mapping.now c.args.class c.args.objects.now) c.args.places.now c.loop-place.place-index c.loop-place.invariant.step c.loop-place-test.true (search rules) c.in_ok-load_option.ensures.step refl;
-  ready = c.in_ok-load_option.ensures.stays;
+  ready = still_then (g.K.Keeper.moment c.args.keeper.now) (g.K.Keeper.moment c.loop-place.keeper) (g.K.Keeper.moment c.load_option.new.keeper) c.loop-place.invariant.ready c.in_ok-load_option.ensures.stays;
   grows = grows_then c.args.arena.now c.loop-place.arena c.load_option.new.arena c.loop-place.invariant.grows c.in_ok-load_option.ensures.grows;
   fits = c.in_ok-load_option.ensures.fits;
 }
@@ -43,3 +43,10 @@ returns-clause-step g c = each_end (load_option c.args.mapping.now c.args.class 
 
 pub returns-in_err-load_option-clause-refuses : goal.returns-in_err-load_option-clause-refuses
 returns-in_err-load_option-clause-refuses g c = passed_refusal (CanRefuseRows c.args.mapping.now) _ c.from_residual.result c.from_residual.ensures.1 c.in_err-load_option.ensures.refuses
+
+pub load_option-requires-clause-ready : goal.load_option-requires-clause-ready
+load_option-requires-clause-ready g c = c.loop-place.invariant.ready.0
+
+pub returns-in_err-load_option-clause-stays : goal.returns-in_err-load_option-clause-stays
+returns-in_err-load_option-clause-stays g c = passed_still (g.K.Keeper.moment c.args.keeper.now) (g.K.Keeper.moment c.load_option.new.keeper) _ c.from_residual.result c.from_residual.ensures.1
+    (stays_then (g.K.Keeper.moment c.args.keeper.now) (g.K.Keeper.moment c.loop-place.keeper) (g.K.Keeper.moment c.load_option.new.keeper) _ c.loop-place.invariant.ready c.in_err-load_option.ensures.stays)

@@ -23,7 +23,7 @@ returns-clause-step g c =
     query_loaded g.K.Keeper.moment c.args.mapping.now c.args.query.now c.in_ok-rows.rows c.as_slice.result.now c.as_slice.ensures (c.in_ok-rows.ensures.step c.args.arena.now) c.take_objects.ensures.step
 
 pub returns-clause-stays : goal.returns-clause-stays
-returns-clause-stays g c = ready_stays c.args.mapping.now.schema (g.K.Keeper.moment c.read_rows.new.keeper) c.take_objects.result c.in_ok-rows.ensures.stays
+returns-clause-stays g c = ready_stays (g.K.Keeper.moment c.args.keeper.now) (g.K.Keeper.moment c.read_rows.new.keeper) c.take_objects.result c.in_ok-rows.ensures.stays
 
 pub returns-clause-refuses : goal.returns-clause-refuses
 returns-clause-refuses g c = refused_rows c.args.mapping.now c.take_objects.result c.take_objects.ensures.refuses

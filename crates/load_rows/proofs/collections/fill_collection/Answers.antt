@@ -15,4 +15,4 @@ returns-clause-fits c =
     (collection_fits c.args.mapping.now c.args.arena.now (relation_of c.args.mapping.now (object_at c.args.arena.now c.args.owner).class c.args.place) c.args.read.now c.in_ok-ordered.ordered c.link_at.result.now c.in-Some.link
     c.requires.many
     (ap (link_fits c.args.mapping.now c.args.arena.now.roots (relation_of c.args.mapping.now (object_at c.args.arena.now c.args.owner).class c.args.place)) c.link_at.ensures ∙ c.has_link.ensures.fits)
-    c.requires.read c.in_ok-ordered.ensures.order (sym c.in-Some.is ∙ c.in_ok-link.ensures.link)) c.requires.fit
+    c.requires.read c.in_ok-ordered.ensures (sym c.in-Some.is ∙ c.in_ok-link.ensures)) c.requires.fit

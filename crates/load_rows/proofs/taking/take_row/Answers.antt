@@ -11,8 +11,7 @@ returns-in_err-object-clause-step c =
 
 pub returns-in_err-fill_by_row-clause-step : goal.returns-in_err-fill_by_row-clause-step
 returns-in_err-fill_by_row-clause-step c =
-    take_lost (λ object. object) (take_row c.args.mapping.now c.args.class c.args.values.now (loading c.args.arena.now c.args.notes.now)) _ _ c.from_residual-in_err-fill_by_row.result c.from_residual-in_err-fill_by_row.ensures.1
-    c.in_err-fill_by_row.ensures.cause
+    take_lost (λ object. object) (take_row c.args.mapping.now c.args.class c.args.values.now (loading c.args.arena.now c.args.notes.now)) _ c.from_residual-in_err-fill_by_row.result c.from_residual-in_err-fill_by_row.ensures.1
 
 pub returns-clause-step : goal.returns-clause-step
 returns-clause-step c =

@@ -4,7 +4,7 @@ use Rattle.load_targets.proofs.ends.select_of_key.Goals as goal
 
 pub returns-clause-plain : goal.returns-clause-plain
 returns-clause-plain c =
-    key_plain c.args.mapping.now c.args.class c.args.key.now c.key_select.result (c.has_hierarchies.ensures.hierarchies c.requires.configured) c.requires.class c.requires.key c.key_select.ensures.select
+    key_plain c.args.mapping.now c.args.class c.args.key.now c.key_select.result c.schema.ensures.configured.hierarchies c.requires.class c.requires.key c.key_select.ensures
 
 pub returns-clause-hierarchies : goal.returns-clause-hierarchies
-returns-clause-hierarchies c = has_told c.args.mapping.now c.key_select.result (c.has_hierarchies.ensures.hierarchies c.requires.configured)
+returns-clause-hierarchies c = has_told c.args.mapping.now c.key_select.result c.schema.ensures.configured.hierarchies

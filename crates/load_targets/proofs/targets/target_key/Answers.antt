@@ -1,23 +1,23 @@
-use Rattle.load_calls.proofs.CollectionLemmas.{declared_told, owned_related}
-use Rattle.load_targets.proofs.TargetLemmas.{key_is, key_told}
+use Rattle.load_calls.proofs.CollectionLemmas.{owned_related}
+use Rattle.load_targets.proofs.TargetLemmas.{class_told, key_is, key_told}
 use Rattle.load_targets.proofs.targets.target_key.Goals as goal
 
-pub foreign_attrs-requires-clause-class : goal.foreign_attrs-requires-clause-class
-foreign_attrs-requires-clause-class c = (c.object-record.ensures.fits c.args.mapping.now c.requires.fit).class
+pub foreign_attrs-requires : goal.foreign_attrs-requires
+foreign_attrs-requires c = record { class = (c.object-record.ensures.fits c.args.mapping.now c.requires.fit).class }
 
 pub returns-clause-key : goal.returns-clause-key
 returns-clause-key c =
-    key_is c.args.mapping.now c.args.relation.now c.args.arena.now c.args.child c.object-record.result.now c.in_ok-attrs.attrs c.as_slice.result.now c.values_at.result c.object-record.ensures.is c.in_ok-attrs.ensures.attrs c.as_slice.ensures
-    c.values_at.ensures.values
+    key_is c.args.mapping.now c.args.relation.now c.args.arena.now c.args.child c.object-record.result.now c.in_ok-attrs.attrs c.as_slice.result.now c.values_at.result c.object-record.ensures.is c.in_ok-attrs.ensures c.as_slice.ensures
+    c.values_at.ensures
 
 pub returns-clause-target : goal.returns-clause-target
 returns-clause-target c =
-    declared_told c.args.mapping.now c.args.relation.now.target c.values_at.result
-    (owned_related c.args.mapping.now c.args.arena.now c.args.child c.args.place c.args.relation.now c.object-record.result.now (c.is_configured.ensures.related c.requires.configured)
+    class_told c.args.mapping.now c.args.relation.now.target c.values_at.result
+    (owned_related c.args.mapping.now c.args.arena.now c.args.child c.args.place c.args.relation.now c.object-record.result.now c.schema.ensures.configured.related
     (c.object-record.ensures.fits c.args.mapping.now c.requires.fit) c.object-record.ensures.is c.requires.place c.requires.relation).target
 
 pub returns-clause-fits : goal.returns-clause-fits
 returns-clause-fits c =
-    key_told c.args.mapping.now c.args.relation.now c.args.arena.now c.args.child c.args.place c.object-record.result.now c.values_at.result (c.has_hierarchies.ensures.hierarchies c.requires.configured)
-    (c.is_configured.ensures.related c.requires.configured) (c.object-record.ensures.fits c.args.mapping.now c.requires.fit) c.object-record.ensures.is (c.object-record.ensures.cells c.args.mapping.now c.requires.fit) c.requires.place c.requires.relation
+    key_told c.args.mapping.now c.args.relation.now c.args.arena.now c.args.child c.args.place c.object-record.result.now c.values_at.result c.schema.ensures.configured.hierarchies
+    c.schema.ensures.configured.related (c.object-record.ensures.fits c.args.mapping.now c.requires.fit) c.object-record.ensures.is (c.object-record.ensures.cells c.args.mapping.now c.requires.fit) c.requires.place c.requires.relation
     c.requires.one (returns-clause-key c)

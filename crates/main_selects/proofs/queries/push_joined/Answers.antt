@@ -7,6 +7,6 @@ use Rattle.main_selects.proofs.queries.push_joined.Goals as goal
 pub push_option-requires-clause-target : goal.push_option-requires-clause-target
 push_option-requires-clause-target c = subst (λ (r : Relation). IsClass c.args.mapping.now r.target) (sym c.relation_at.ensures) c.target_is_declared.ensures
 
-pub returns-clause-option : goal.returns-clause-option
-returns-clause-option c =
-    subst (λ (r : Relation). OnOk c.push_option.result (c.push_option.new.select ≡ with_option c.args.mapping.now c.args.class c.args.select.now r)) c.relation_at.ensures c.push_option.ensures.option
+pub returns : goal.returns
+returns c =
+    subst (λ (r : Relation). OnOk c.push_option.result (c.push_option.new.select ≡ with_option c.args.mapping.now c.args.class c.args.select.now r)) c.relation_at.ensures c.push_option.ensures

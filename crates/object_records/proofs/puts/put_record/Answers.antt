@@ -13,14 +13,14 @@ pub put_cells-requires-clause-object : goal.put_cells-requires-clause-object
 put_cells-requires-clause-object c =
     let first : Object = stood c.args.new.state c.args.new.identity (object_at c.args.arena.now c.args.object) in
     let made = made_after c.args.arena.now c.put_state.new.arena c.args.object first c.put_state.ensures c.requires.object in
-    made_after c.put_state.new.arena c.put_marks.new.arena c.args.object (with_own_marks c.args.new.added c.args.new.marked c.args.new.orphan (object_at c.put_state.new.arena c.args.object)) c.put_marks.ensures made
+    made_after c.put_state.new.arena c.put_marks.new.self c.args.object (with_own_marks c.args.new.added c.args.new.marked c.args.new.orphan (object_at c.put_state.new.arena c.args.object)) c.put_marks.ensures.put made
 
 pub put_cells-requires-clause-long : goal.put_cells-requires-clause-long
 put_cells-requires-clause-long c =
     let first : Object = stood c.args.new.state c.args.new.identity (object_at c.args.arena.now c.args.object) in
     let made = made_after c.args.arena.now c.put_state.new.arena c.args.object first c.put_state.ensures c.requires.object in
     let one = at_after c.args.arena.now c.put_state.new.arena c.args.object first c.put_state.ensures c.requires.object in
-    let two = at_after c.put_state.new.arena c.put_marks.new.arena c.args.object (with_own_marks c.args.new.added c.args.new.marked c.args.new.orphan (object_at c.put_state.new.arena c.args.object)) c.put_marks.ensures made in
+    let two = at_after c.put_state.new.arena c.put_marks.new.self c.args.object (with_own_marks c.args.new.added c.args.new.marked c.args.new.orphan (object_at c.put_state.new.arena c.args.object)) c.put_marks.ensures.put made in
     c.requires.replaces.cells
     ∙ sym (stood_cells c.args.new.state c.args.new.identity (object_at c.args.arena.now c.args.object))
     ∙ sym (ap (λ (o : Object). length o.cells) one)
@@ -30,17 +30,17 @@ pub put_links-requires-clause-object : goal.put_links-requires-clause-object
 put_links-requires-clause-object c =
     let first : Object = stood c.args.new.state c.args.new.identity (object_at c.args.arena.now c.args.object) in
     let made = made_after c.args.arena.now c.put_state.new.arena c.args.object first c.put_state.ensures c.requires.object in
-    let marked = made_after c.put_state.new.arena c.put_marks.new.arena c.args.object (with_own_marks c.args.new.added c.args.new.marked c.args.new.orphan (object_at c.put_state.new.arena c.args.object)) c.put_marks.ensures made in
-    made_after c.put_marks.new.arena c.put_cells.new.arena c.args.object (with_cells (object_at c.put_marks.new.arena c.args.object) c.args.new.cells) c.put_cells.ensures marked
+    let marked = made_after c.put_state.new.arena c.put_marks.new.self c.args.object (with_own_marks c.args.new.added c.args.new.marked c.args.new.orphan (object_at c.put_state.new.arena c.args.object)) c.put_marks.ensures.put made in
+    made_after c.put_marks.new.self c.put_cells.new.arena c.args.object (with_cells (object_at c.put_marks.new.self c.args.object) c.args.new.cells) c.put_cells.ensures marked
 
 pub put_links-requires-clause-long : goal.put_links-requires-clause-long
 put_links-requires-clause-long c =
     let first : Object = stood c.args.new.state c.args.new.identity (object_at c.args.arena.now c.args.object) in
     let made = made_after c.args.arena.now c.put_state.new.arena c.args.object first c.put_state.ensures c.requires.object in
-    let marked = made_after c.put_state.new.arena c.put_marks.new.arena c.args.object (with_own_marks c.args.new.added c.args.new.marked c.args.new.orphan (object_at c.put_state.new.arena c.args.object)) c.put_marks.ensures made in
+    let marked = made_after c.put_state.new.arena c.put_marks.new.self c.args.object (with_own_marks c.args.new.added c.args.new.marked c.args.new.orphan (object_at c.put_state.new.arena c.args.object)) c.put_marks.ensures.put made in
     let one = at_after c.args.arena.now c.put_state.new.arena c.args.object first c.put_state.ensures c.requires.object in
-    let two = at_after c.put_state.new.arena c.put_marks.new.arena c.args.object (with_own_marks c.args.new.added c.args.new.marked c.args.new.orphan (object_at c.put_state.new.arena c.args.object)) c.put_marks.ensures made in
-    let three = at_after c.put_marks.new.arena c.put_cells.new.arena c.args.object (with_cells (object_at c.put_marks.new.arena c.args.object) c.args.new.cells) c.put_cells.ensures marked in
+    let two = at_after c.put_state.new.arena c.put_marks.new.self c.args.object (with_own_marks c.args.new.added c.args.new.marked c.args.new.orphan (object_at c.put_state.new.arena c.args.object)) c.put_marks.ensures.put made in
+    let three = at_after c.put_marks.new.self c.put_cells.new.arena c.args.object (with_cells (object_at c.put_marks.new.self c.args.object) c.args.new.cells) c.put_cells.ensures marked in
     c.requires.replaces.links
     ∙ sym (stood_links c.args.new.state c.args.new.identity (object_at c.args.arena.now c.args.object))
     ∙ sym (ap (λ (o : Object). length o.links) one)
@@ -49,5 +49,5 @@ put_links-requires-clause-long c =
 
 pub returns : goal.returns
 returns c =
-    record_whole c.args.arena.now c.put_state.new.arena c.put_marks.new.arena c.put_cells.new.arena c.put_links.new.arena c.args.object c.args.new c.requires.object c.requires.replaces.class
-    c.put_state.ensures c.put_marks.ensures c.put_cells.ensures c.put_links.ensures
+    record_whole c.args.arena.now c.put_state.new.arena c.put_marks.new.self c.put_cells.new.arena c.put_links.new.arena c.args.object c.args.new c.requires.object c.requires.replaces.class
+    c.put_state.ensures c.put_marks.ensures.put c.put_cells.ensures c.put_links.ensures

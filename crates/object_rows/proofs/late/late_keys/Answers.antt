@@ -11,9 +11,9 @@ loop-table-preserved c =
     (flat_map (late_in c.args.mapping.now) (drop (c.loop-table.table + 1) (table_ids c.args.mapping.now.schema)))
     (flat_map (late_in c.args.mapping.now) (drop c.loop-table.table (table_ids c.args.mapping.now.schema)))
     (flat_map (late_in c.args.mapping.now) (table_ids c.args.mapping.now.schema))
-    c.in_ok-push_late_in.ensures.keys
+    c.in_ok-push_late_in.ensures
     (ap (flat_map (late_in c.args.mapping.now)) (tables_left c.args.mapping.now.schema c.loop-table.table (subst (λ m. c.loop-table.table < m) c.table_count-table-end.ensures c.loop-table-test.true)))
     c.loop-table.invariant
 
-pub returns-clause-keys : goal.returns-clause-keys
-returns-clause-keys c = keys_done c.args.mapping.now c.loop-table.keys c.loop-table.table (omega (arith, c.loop-table-test.false, c.table_count-table-end.ensures)) c.loop-table.invariant
+pub returns : goal.returns
+returns c = keys_done c.args.mapping.now c.loop-table.keys c.loop-table.table (omega (arith, c.loop-table-test.false, c.table_count-table-end.ensures)) c.loop-table.invariant

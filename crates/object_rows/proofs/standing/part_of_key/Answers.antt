@@ -4,5 +4,5 @@ use Rattle.std.proofs.lemmas.Option.{unwrap_or-slice_get}
 use Rattle.base_core.specs.declared.value.Value.TheVariants.{Null}
 use Rattle.object_rows.proofs.standing.part_of_key.Goals as goal
 
-pub returns-in-None-clause-value : goal.returns-in-None-clause-value
-returns-in-None-clause-value c = ap (λ found. unwrap_or found Null) c.in-None.ensures ∙ unwrap_or-slice_get c.args.key.now c.args.part Null
+pub returns-in-None : goal.returns-in-None
+returns-in-None c = ap (λ found. unwrap_or found Null) c.in-None.ensures ∙ unwrap_or-slice_get c.args.key.now c.args.part Null

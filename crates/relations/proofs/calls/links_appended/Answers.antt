@@ -12,7 +12,7 @@ returns-then-has_member-clause-fits c = λ pairs is of. none_fits c.args.mapping
 pub returns-then-is_some-clause-fits : goal.returns-then-is_some-clause-fits
 returns-then-is_some-clause-fits c = λ pairs is of.
     let far : is_some c.args.relation.now.far ≡ true = first_of (search rules, grind arith) in
-    fits_by c.args.mapping.now c.args.arena.now c.join_change.result (join_change c.args.arena.now c.args.owner c.args.place c.args.relation.now c.args.member) c.join_change.ensures.change
+    fits_by c.args.mapping.now c.args.arena.now c.in_ok-join_change.field-0 (join_change c.args.arena.now c.args.owner c.args.place c.args.relation.now c.args.member) c.in_ok-join_change.ensures.change
     (join_fits c.args.mapping.now c.args.arena.now c.args.owner c.args.place c.args.relation.now c.args.member pairs c.requires.fit c.requires.owner c.requires.member is of far)
 
 pub returns-in-None-clause-fits : goal.returns-in-None-clause-fits

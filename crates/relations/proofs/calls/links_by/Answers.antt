@@ -16,5 +16,5 @@ returns-in-Append-clause-fits c = λ pairs at many of.
 
 pub returns-in-Remove-clause-fits : goal.returns-in-Remove-clause-fits
 returns-in-Remove-clause-fits c = λ pairs at many of.
-    c.links_removed.ensures.fits pairs (record { at = at; many = many ∙ ap is_of_collection c.in-Remove.is })
+    c.links_removed.ensures.fits c.args.mapping.now pairs c.requires.fit (record { at = at; many = many ∙ ap is_of_collection c.in-Remove.is })
     (subst (λ (call : LinkCall). IsEndOf c.args.arena.now c.args.mapping.now c.args.relation.now.target (end_of call)) c.in-Remove.is of)

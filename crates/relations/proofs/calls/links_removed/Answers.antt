@@ -4,6 +4,6 @@ use Rattle.relations.proofs.ChangeLemmas.{remove_fits}
 use Rattle.relations.proofs.calls.links_removed.Goals as goal
 
 pub returns-clause-fits : goal.returns-clause-fits
-returns-clause-fits c = λ pairs is of.
-    fits_by c.args.mapping.now c.args.arena.now c.remove_change.result (remove_change c.args.arena.now c.args.owner c.args.place c.args.relation.now c.args.member) c.remove_change.ensures.change
-    (remove_fits c.args.mapping.now c.args.arena.now c.args.owner c.args.place c.args.relation.now c.args.member pairs c.requires.fit c.requires.owner c.requires.member is of)
+returns-clause-fits c = λ mapped pairs fit is of.
+    fits_by mapped c.args.arena.now c.in_ok-remove_change.field-0 (remove_change c.args.arena.now c.args.owner c.args.place c.args.relation.now c.args.member) c.in_ok-remove_change.ensures.change
+    (remove_fits mapped c.args.arena.now c.args.owner c.args.place c.args.relation.now c.args.member pairs fit c.requires.owner c.requires.member is of)

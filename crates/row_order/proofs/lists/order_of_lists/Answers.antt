@@ -26,10 +26,10 @@ returns-clause-told c =
     ∙ cycle_told c.args.lists.now found.placed.items found.counts.items found.left.items found.ready c.in-Some.row c.in_ok-path-in-Some.path.items c.in_ok-search.ensures.stands c.in_ok-search.ensures.order within
     (ap (λ ls. get_or ls c.in-Some.row false) (sym left) ∙ c.in-Some.ensures.left)
     (λ k h. ap (λ ls. get_or ls k false) (sym left) ∙ c.in-Some.ensures.before k h)
-    c.in_ok-path-in-Some.ensures.rows
+    c.in_ok-path-in-Some.ensures
 
 pub returns-clause-within : goal.returns-clause-within
 returns-clause-within c =
     let lists = c.args.lists.now in
     let less : c.in-Some.row < length lists = omega (arith, c.in-Some.ensures.within, ap length c.as_slice-2.ensures.value, c.in_ok-search.ensures.stands.marked) in
-    subst (All (λ row. row < length lists)) (sym c.from_vec-in-Some.ensures) (cycle_within (waits_in lists) (length lists) c.in-Some.row c.in_ok-path-in-Some.path.items c.in_ok-path-in-Some.ensures.rows less)
+    subst (All (λ row. row < length lists)) (sym c.from_vec-in-Some.ensures) (cycle_within (waits_in lists) (length lists) c.in-Some.row c.in_ok-path-in-Some.path.items c.in_ok-path-in-Some.ensures less)

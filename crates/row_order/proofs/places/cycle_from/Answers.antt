@@ -12,9 +12,9 @@ loop-step-init g c =
       ap (λ steps. trail next steps c.new-path.result.items c.args.least) all ∙ ap (λ path. trail next (suc size) path c.args.least) c.new-path.ensures.items,
     )
 
-pub returns-then-is_among-clause-rows : goal.returns-then-is_among-clause-rows
+pub returns-then-is_among : goal.returns-then-is_among
 unfolding cycle_from
-returns-then-is_among-clause-rows g c =
+returns-then-is_among g c =
     let waits = g.W.Waits.waits c.args.rows.now in
     let size = g.W.Waits.size c.args.rows.now in
     let path = c.loop-step.path.items in
@@ -25,7 +25,7 @@ returns-then-is_among-clause-rows g c =
     (ap (from_row row) c.as_slice-then-is_among.ensures.value
     ∙ sym (trail_found (next_blocker waits size c.args.placed.now) (suc size) c.loop-step._step path row within found)
     ∙ c.loop-step.invariant.1
-    ∙ ap (λ placed. trail (next_blocker waits size placed) (suc size) [] c.args.least) c.requires.ordered) c.from_row.ensures.rows
+    ∙ ap (λ placed. trail (next_blocker waits size placed) (suc size) [] c.args.least) c.requires.ordered) c.from_row.ensures
 
 pub loop-step-preserved : goal.loop-step-preserved
 loop-step-preserved g c =

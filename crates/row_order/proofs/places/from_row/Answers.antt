@@ -12,5 +12,5 @@ loop-place-preserved c =
     let place = c.loop-place.place in
     from_passed c.args.row path place 0 c.loop-place-test.true (ne_eqb c.args.row (get_or path place 0) c.if-row-first.false) ∙ c.loop-place.invariant
 
-pub returns-clause-rows : goal.returns-clause-rows
-returns-clause-rows c = c.new.ensures.items ∙ sym (from_end c.args.row c.args.path.now c.loop-place.place c.loop-place-test.false) ∙ c.loop-place.invariant
+pub returns : goal.returns
+returns c = c.new.ensures.items ∙ sym (from_end c.args.row c.args.path.now c.loop-place.place c.loop-place-test.false) ∙ c.loop-place.invariant

@@ -9,7 +9,7 @@ loop-row-init c = c.new-left.ensures.items
 pub loop-row-preserved : goal.loop-row-preserved
 loop-row-preserved c = c.in_ok-push.ensures.items ∙ ap (λ left. left ++ true ∷ []) c.loop-row.invariant ∙ replicate_more c.loop-row._row true
 
-pub returns-clause-left : goal.returns-clause-left
-returns-clause-left c =
+pub returns : goal.returns
+returns c =
     let all : c.loop-row._row ≡ c.args.size = omega (arith, c.loop-row-test.false, c.loop-row.auto._row-end) in
     c.loop-row.invariant ∙ ap (λ n. replicate n true) all

@@ -14,5 +14,5 @@ loop-list-preserved c =
     ∙ ap (λ count. map length (take place lists) ++ count ∷ []) (c.len.ensures ∙ ap length c.list-item.is)
     ∙ sym (map_more length lists place c.list-item.result c.loop-list-test.true)
 
-pub returns-clause-lengths : goal.returns-clause-lengths
-returns-clause-lengths c = c.loop-list.invariant ∙ ap (map length) (take_all c.loop-list.list-index c.args.lists.now c.loop-list-test.false)
+pub returns : goal.returns
+returns c = c.loop-list.invariant ∙ ap (map length) (take_all c.loop-list.list-index c.args.lists.now c.loop-list-test.false)

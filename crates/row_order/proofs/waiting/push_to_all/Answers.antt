@@ -13,11 +13,11 @@ loop-place-preserved c =
     let o = get_or places i 0 in
     let less : o < length lists = omega (arith, c.requires i 0 c.loop-place-test.true, c.loop-place.invariant.size) in
     record {
-      size = ap length c.in_ok-push_at.ensures.lists ∙ length-set lists o (list_at lists o ++ c.args.row ∷ []) ∙ c.loop-place.invariant.size;
+      size = ap length c.in_ok-push_at.ensures ∙ length-set lists o (list_at lists o ++ c.args.row ∷ []) ∙ c.loop-place.invariant.size;
       times = λ q place h.
-          ap (λ ls. times q (list_at ls place)) c.in_ok-push_at.ensures.lists
+          ap (λ ls. times q (list_at ls place)) c.in_ok-push_at.ensures
           ∙ pushed_times c.args.lists.now.items lists places i o c.args.row q place c.loop-place-test.true refl less (c.loop-place.invariant.times q place h);
-      below = λ bound h all. subst (AreBelow bound) (sym c.in_ok-push_at.ensures.lists) (pushed_below lists o c.args.row bound less h (c.loop-place.invariant.below bound h all));
+      below = λ bound h all. subst (AreBelow bound) (sym c.in_ok-push_at.ensures) (pushed_below lists o c.args.row bound less h (c.loop-place.invariant.below bound h all));
     }
 
 pub loop-place-init : goal.loop-place-init

@@ -27,8 +27,8 @@ loop-row-preserved c =
           gathered lists c.loop-row.waiting.items c.push_to_all.new.lists.items c.as_slice.result.now row q place is (c.loop-row.invariant.times q place h) (c.in_ok-push_to_all.ensures.times q place l);
     }
 
-pub returns-clause-mirrored : goal.returns-clause-mirrored
-returns-clause-mirrored c = record {
+pub returns : goal.returns
+returns c = record {
   size = c.loop-row.invariant.size;
   rows = subst (λ n. AreBelow n c.loop-row.waiting.items) (sym c.loop-row.invariant.size) c.loop-row.invariant.below;
   each = λ row other h l.

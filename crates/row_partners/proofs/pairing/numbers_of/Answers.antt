@@ -8,4 +8,4 @@ pub loop-behind-preserved : goal.loop-behind-preserved
 loop-behind-preserved c = λ wanted.
     gone_entered c.args.schema.now c.args.rows.now c.loop-behind.behind (length c.args.rows.now - 1 - c.loop-behind.behind) c.index-rows-number.result c.in_ok-place.place
     (get place_cmp c.loop-behind.numbers wanted) (get place_cmp c.enter.new.numbers wanted) wanted
-    c.loop-behind-test.true c.index-rows-number.is c.in_ok-place.ensures.place (c.in_ok-enter.ensures.number wanted) (c.loop-behind.invariant wanted)
+    c.loop-behind-test.true c.index-rows-number.is c.in_ok-place.ensures (c.in_ok-enter.ensures wanted) (c.loop-behind.invariant wanted)

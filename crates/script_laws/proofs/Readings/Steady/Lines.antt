@@ -4,8 +4,8 @@ use Rattle.schema_core.specs.declared.table.ColumnKind.TheVariants as column
 use Rattle.class_types.specs.declared.declared.Cascade.{Cascade}
 use Rattle.script_types.specs.declared.command.Command.{Command}
 use Rattle.script_types.specs.declared.command.Command.TheVariants as c
-use Rattle.script_types.specs.declared.command.Dialect.{Dialect}
-use Rattle.script_types.specs.declared.command.Dialect.TheVariants.{Sqlite, Postgresql, Mysql}
+use Rattle.base_core.specs.declared.dialect.Dialect.{Dialect}
+use Rattle.base_core.specs.declared.dialect.Dialect.TheVariants.{Sqlite, Postgresql, Mysql}
 use Rattle.script_types.specs.declared.command.Term.{Term}
 use Rattle.script_lex.specs.declared.kind.Kind.{Kind}
 use Rattle.script_lex.specs.declared.kind.Kind.TheVariants as k

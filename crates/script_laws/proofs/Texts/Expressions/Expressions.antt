@@ -17,8 +17,8 @@ use Rattle.expr_types.specs.declared.expr.Origin.{Origin}
 use Rattle.expr_types.specs.Level.{operands}
 use Rattle.expr_types.proofs.Folds.{bare, by_levels}
 use Rattle.sql_semantics.specs.Plain.{several}
-use Rattle.sql_text.specs.declared.names.Quoting.{Quoting}
-use Rattle.sql_text.specs.declared.names.Quoting.TheVariants.{Sqlite, Postgresql, Mysql}
+use Rattle.base_core.specs.declared.dialect.Dialect.{Dialect}
+use Rattle.base_core.specs.declared.dialect.Dialect.TheVariants.{Sqlite, Postgresql, Mysql}
 use Rattle.sql_text.specs.Words.{null_word, like_word, ilike_word, distinct_word, sqlite_distinct_word}
 use Rattle.sql_expressions.specs.Laid as l
 use Rattle.sql_expressions.specs.Laid.{Laid, laid, laid_level}
@@ -52,7 +52,7 @@ full_rolled x = fold-roll-Expr Bool whole_level x
 
 -- ---- one level
 
-module _ (q : Quoting) (schema : Catalog) where
+module _ (q : Dialect) (schema : Catalog) where
   abbrev Claim : Bool → Laid → (List Origin → Sql) → Type 0
   Claim full a s = full ≡ true → Ready q a s
 
@@ -116,10 +116,10 @@ module _ (q : Quoting) (schema : Catalog) where
 
 -- ---- forms that dialects write otherwise
 
-abbrev BothFull : (q : Quoting) (schema : Catalog) → Known q schema → Known q schema → Type 0
+abbrev BothFull : (q : Dialect) (schema : Catalog) → Known q schema → Known q schema → Type 0
 BothFull q schema a b = (is_full a.0 && (is_full b.0 && true)) ≡ true
 
-concat_read : (q : Quoting) (schema : Catalog) (a b : Known q schema) → BothFull q schema a b → (scope : List Origin) (t : List ℕ) (v : List Value)
+concat_read : (q : Dialect) (schema : Catalog) (a b : Known q schema) → BothFull q schema a b → (scope : List Origin) (t : List ℕ) (v : List Value)
     → Writes q (l.concat_pieces q (laid q schema a.0) (laid q schema b.0) scope) t v → At q (l.concat_level q) t v (concat_tree q (tree q schema a.0 scope) (tree q schema b.0 scope))
 concat_read Sqlite schema a b h scope t v w =
     tests_read Sqlite schema (codes " || ") a b scope t v h (λ p u. At Sqlite 5 p u (concat_tree Sqlite (tree Sqlite schema a.0 scope) (tree Sqlite schema b.0 scope))) 5 6 (omega arith) (omega arith) w
@@ -133,13 +133,13 @@ concat_read Mysql schema a b h scope t v w =
     (λ p u inner. tests_read Mysql schema (codes ", ") a b scope p u h (λ p u. At Mysql 8 (codes "concat(" ++ (p ++ codes ")")) u (concat_tree Mysql (tree Mysql schema a.0 scope) (tree Mysql schema b.0 scope))) 5 6 (omega arith) (omega arith) inner
     (λ c d u z one other. here Operand (g.called Concat refl (g.more_parts (to_either 5 one) (g.one_part (to_either 6 other)))))))
 
-lowers_read : (q : Quoting) (schema : Catalog) (n : Bool) (a b : Known q schema) → BothFull q schema a b → (scope : List Origin) (t : List ℕ) (v : List Value)
+lowers_read : (q : Dialect) (schema : Catalog) (n : Bool) (a b : Known q schema) → BothFull q schema a b → (scope : List Origin) (t : List ℕ) (v : List Value)
     → Writes q (l.lower_like n (laid q schema a.0) (laid q schema b.0) scope) t v → At q 4 t v (ilike_tree Sqlite n (tree q schema a.0 scope) (tree q schema b.0 scope))
 lowers_read q schema n a b h scope t v w =
     let one = and_parts (is_full a.0) (is_full b.0 && true) h in
     here Tested (lower_like_read q n (laid q schema a.0) (laid q schema b.0) (tree q schema a.0) (tree q schema b.0) (a.1 one.0) (b.1 (and_parts (is_full b.0) true one.1).0) scope t v w)
 
-ilike_read : (q : Quoting) (schema : Catalog) (n : Bool) (a b : Known q schema) → BothFull q schema a b → (scope : List Origin) (t : List ℕ) (v : List Value)
+ilike_read : (q : Dialect) (schema : Catalog) (n : Bool) (a b : Known q schema) → BothFull q schema a b → (scope : List Origin) (t : List ℕ) (v : List Value)
     → Writes q (l.ilike_pieces q n (laid q schema a.0) (laid q schema b.0) scope) t v → At q 4 t v (ilike_tree q n (tree q schema a.0 scope) (tree q schema b.0 scope))
 ilike_read Sqlite schema n a b h scope t v w = lowers_read Sqlite schema n a b h scope t v w
 ilike_read Mysql schema n a b h scope t v w = lowers_read Mysql schema n a b h scope t v w
@@ -147,7 +147,7 @@ ilike_read Postgresql schema n a b h scope t v w =
     tests_read Postgresql schema (ilike_word n) a b scope t v h (λ p u. At Postgresql 4 p u (ilike_tree Postgresql n (tree Postgresql schema a.0 scope) (tree Postgresql schema b.0 scope))) 5 5 (omega arith) (omega arith) w
     (λ c d u z one other. here Tested (g.tested (Ilike n) refl (to_added one) (to_added other)))
 
-distinct_read : (q : Quoting) (schema : Catalog) (n : Bool) (a b : Known q schema) → BothFull q schema a b → (scope : List Origin) (t : List ℕ) (v : List Value)
+distinct_read : (q : Dialect) (schema : Catalog) (n : Bool) (a b : Known q schema) → BothFull q schema a b → (scope : List Origin) (t : List ℕ) (v : List Value)
     → Writes q (l.distinct_pieces q n (laid q schema a.0) (laid q schema b.0) scope) t v → At q (l.distinct_level q n) t v (distinct_tree q n (tree q schema a.0 scope) (tree q schema b.0 scope))
 distinct_read Sqlite schema n a b h scope t v w =
     tests_read Sqlite schema (sqlite_distinct_word n) a b scope t v h (λ p u. At Sqlite 4 p u (distinct_tree Sqlite n (tree Sqlite schema a.0 scope) (tree Sqlite schema b.0 scope))) 5 5 (omega arith) (omega arith) w
@@ -166,7 +166,7 @@ distinct_read Mysql schema true a b h scope t v w =
 
 -- ---- every level
 
-module _ (q : Quoting) (schema : Catalog) where
+module _ (q : Dialect) (schema : Catalog) where
   in_read : (n : Bool) (a : Known q schema) → is_full a.0 ≡ true → (values : List Value) (scope : List Origin) (t : List ℕ) (v : List Value)
       → Writes q (l.in_pieces n (laid q schema a.0) values scope) t v → At q (l.in_level values) t v (in_list n (tree q schema a.0 scope) values)
   in_read n a h [] scope t v w = here Operand (no_list_read q n (laid q schema a.0) (tree q schema a.0) (a.1 h) scope t v w)

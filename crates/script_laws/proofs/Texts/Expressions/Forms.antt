@@ -5,7 +5,7 @@ use Rattle.std.proofs.lemmas.Bool.{ltb-false}
 use Rattle.base_core.specs.declared.value.Value.{Value}
 use Rattle.schema_core.specs.Catalog.{Catalog, spec_of}
 use Rattle.expr_types.specs.declared.expr.Origin.{Origin}
-use Rattle.sql_text.specs.declared.names.Quoting.{Quoting}
+use Rattle.base_core.specs.declared.dialect.Dialect.{Dialect}
 use Rattle.sql_text.specs.Words.{like_word, empty_word}
 use Rattle.sql_text.specs.Written.{words, name, with_separators}
 use Rattle.sql_expressions.specs.Laid as l
@@ -17,10 +17,10 @@ use Rattle.script_laws.proofs.Texts.Expressions.Pieces.{OfText, Writes, after_wo
 use Rattle.script_laws.proofs.Texts.Expressions.Levels.{At, at_least, here, to_added, to_either}
 
 -- an operand's text is read as its tree, at its level
-abbrev pub Ready : Quoting → Laid → (List Origin → Sql) → Type 0
+abbrev pub Ready : Dialect → Laid → (List Origin → Sql) → Type 0
 Ready q a s = (scope : List Origin) (base : List ℕ) (t : List ℕ) (v : List Value) → Writes q (a.pieces scope base) t v → At q a.level t v (s scope)
 
-module _ (q : Quoting) where
+module _ (q : Dialect) where
   -- ---- operands
 
   under_by : (least : ℕ) (a : Laid) (s : List Origin → Sql) → Ready q a s → least ≤ 8 → (scope : List Origin) (base : List ℕ) (t : List ℕ) (v : List Value) (b : Bool) → nat_lt a.level least ≡ b

@@ -83,15 +83,15 @@ pub stands_full : (schema : Catalog) (sources : List Origin) (e : Expr) → Stan
 stands_full schema sources e s = has_all schema e (map (λ origin. origin.table) sources) s.fitting s.full_lists
 
 pub expressions_are_read : ExpressionsAreRead
-expressions_are_read quoting schema sources base e s =
-    all_written (λ t v. Reads quoting Either t v (tree quoting schema e sources)) (nothing_written quoting) ((laid quoting schema e).pieces sources base)
-    (λ t v w. to_either (laid quoting schema e).level (full_read quoting schema e (stands_full schema sources e s) sources base t v w))
+expressions_are_read dialect schema sources base e s =
+    all_written (λ t v. Reads dialect Either t v (tree dialect schema e sources)) (nothing_written dialect) ((laid dialect schema e).pieces sources base)
+    (λ t v w. to_either (laid dialect schema e).level (full_read dialect schema e (stands_full schema sources e s) sources base t v w))
 
 pub texts_tell_trees : TextsTellTrees
-texts_tell_trees quoting schema other_schema sources other_sources base other_base e other h g same_text same_values =
-    let x : Sql = tree quoting other_schema other other_sources in
-    one_tree quoting Either (written_alone quoting schema sources base e).text (written_alone quoting schema sources base e).values (tree quoting schema e sources) x
-    (expressions_are_read quoting schema sources base e h)
-    (subst (λ text. Reads quoting Either text (written_alone quoting schema sources base e).values x) (sym same_text)
-    (subst (λ values. Reads quoting Either (written_alone quoting other_schema other_sources other_base other).text values x) (sym same_values)
-    (expressions_are_read quoting other_schema other_sources other_base other g)))
+texts_tell_trees dialect schema other_schema sources other_sources base other_base e other h g same_text same_values =
+    let x : Sql = tree dialect other_schema other other_sources in
+    one_tree dialect Either (written_alone dialect schema sources base e).text (written_alone dialect schema sources base e).values (tree dialect schema e sources) x
+    (expressions_are_read dialect schema sources base e h)
+    (subst (λ text. Reads dialect Either text (written_alone dialect schema sources base e).values x) (sym same_text)
+    (subst (λ values. Reads dialect Either (written_alone dialect other_schema other_sources other_base other).text values x) (sym same_values)
+    (expressions_are_read dialect other_schema other_sources other_base other g)))

@@ -1,7 +1,7 @@
 -- Texts of a level or a tighter one.
 use Rattle.std.proofs.Common.{ℕ, ◌≤◌, List, arith}
 use Rattle.base_core.specs.declared.value.Value.{Value}
-use Rattle.sql_text.specs.declared.names.Quoting.{Quoting}
+use Rattle.base_core.specs.declared.dialect.Dialect.{Dialect}
 use Rattle.script_laws.specs.Texts.Grammar.Trees.{Sql}
 use Rattle.script_laws.specs.Texts.Grammar.Reads.{Reads, as_tighter, Level, Either, Both, Opposite, Tested, Added, Multiplied, Signed, Operand}
 
@@ -16,7 +16,7 @@ rank Signed = 7
 rank Operand = 8
 
 -- read as a tree at a level of this number or more
-pub record At (q : Quoting) (n : ℕ) (t : List ℕ) (v : List Value) (x : Sql) : Type 0 where
+pub record At (q : Dialect) (n : ℕ) (t : List ℕ) (v : List Value) (x : Sql) : Type 0 where
   pub level : Level
   pub tight : n ≤ rank level
   pub reads : Reads q level t v x
@@ -31,7 +31,7 @@ some_rank Multiplied = omega arith
 some_rank Signed = omega arith
 some_rank Operand = omega arith
 
-module _ {q : Quoting} {t : List ℕ} {v : List Value} {x : Sql} where
+module _ {q : Dialect} {t : List ℕ} {v : List Value} {x : Sql} where
   operand_by : (l : Level) → 8 ≤ rank l → Reads q l t v x → Reads q Operand t v x
   operand_by Operand h r = r
   operand_by _ h r = absurd (omega (arith, h))

@@ -5,7 +5,7 @@ use Rattle.schema_core.specs.Catalog.{Catalog}
 use Rattle.expr_types.specs.declared.expr.Origin.{Origin}
 use Rattle.expr_types.specs.declared.expr.Func.{Func}
 use Rattle.expr_types.specs.declared.expr.Func.TheVariants as func
-use Rattle.sql_text.specs.declared.names.Quoting.{Quoting}
+use Rattle.base_core.specs.declared.dialect.Dialect.{Dialect}
 use Rattle.sql_text.specs.Words.{in_word, between_word}
 use Rattle.sql_text.specs.Written.{words, with_leading_separators, with_separators}
 use Rattle.sql_expressions.specs.Laid as l
@@ -19,7 +19,7 @@ use Rattle.script_laws.proofs.Texts.Expressions.Pieces.{OfText, Writes, after_wo
 use Rattle.script_laws.proofs.Texts.Expressions.Levels.{At, here, to_added, to_either}
 use Rattle.script_laws.proofs.Texts.Expressions.Forms.{Ready, under_read, marks_written, source_read}
 
-module _ (q : Quoting) where
+module _ (q : Dialect) where
   -- ---- parts of a list
 
   -- an operand with its tree, which its text is read as

@@ -7,14 +7,14 @@ use Rattle.std.proofs.lemmas.Bool.{le-ltb, lt-ltb}
 use Rattle.std.proofs.lemmas.List.Folds.{list_all-append}
 use Rattle.std.proofs.lemmas.Nat.{mod_below}
 use Rattle.base_core.specs.declared.value.Value.{Value}
-use Rattle.sql_text.specs.declared.names.Quoting.{Quoting}
-use Rattle.sql_text.specs.declared.names.Quoting.TheVariants.{Sqlite, Postgresql, Mysql}
+use Rattle.base_core.specs.declared.dialect.Dialect.{Dialect}
+use Rattle.base_core.specs.declared.dialect.Dialect.TheVariants.{Sqlite, Postgresql, Mysql}
 use Rattle.sql_text.specs.Names.{needs_quotes, quoted_name, name_text, is_lower, is_upper, is_digit, cleaned_byte}
 use Rattle.sql_text.specs.Written.{Piece, words, name, value, Written, put_piece, put_all, mark_text, next_name, uses_of, mark_name}
 use Rattle.script_laws.specs.Texts.Grammar.Reads.{IsName, bare, in_quotes, IsMark, question, labelled, format, is_label_byte}
 
 -- the pieces, written in order
-pub data Writes (q : Quoting) : List Piece → List ℕ → List Value → Type 0 where
+pub data Writes (q : Dialect) : List Piece → List ℕ → List Value → Type 0 where
   ended : Writes q [] [] []
   of_words : {word : List ℕ} {ps : List Piece} {t : List ℕ} {v : List Value} → Writes q ps t v → Writes q (words word ∷ ps) (word ++ t) v
   of_name : {n a : List ℕ} {ps : List Piece} {t : List ℕ} {v : List Value} → IsName q a n → Writes q ps t v → Writes q (name n ∷ ps) (a ++ t) v
@@ -24,7 +24,7 @@ pub data Writes (q : Quoting) : List Piece → List ℕ → List Value → Type 
 abbrev pub OfText : Type 1
 OfText = List ℕ → List Value → Type 0
 
-module _ {q : Quoting} where
+module _ {q : Dialect} where
   -- ---- parts
 
   -- behind some words
@@ -69,11 +69,11 @@ module _ {q : Quoting} where
 
 -- ---- what is written is written in order
 
-written_name_by : (q : Quoting) (n : List ℕ) (b : Bool) → needs_quotes n ≡ b → IsName q (cond b (quoted_name q n) n) n
+written_name_by : (q : Dialect) (n : List ℕ) (b : Bool) → needs_quotes n ≡ b → IsName q (cond b (quoted_name q n) n) n
 written_name_by q n true is = in_quotes
 written_name_by q n false is = bare is
 
-written_name : (q : Quoting) (n : List ℕ) → IsName q (name_text q n) n
+written_name : (q : Dialect) (n : List ℕ) → IsName q (name_text q n) n
 unfolding name_text
 written_name q n = written_name_by q n (needs_quotes n) refl
 
@@ -129,13 +129,13 @@ label_of base n =
     list_all-append is_label_byte (map cleaned_byte base) (codes "_" ++ decimal n)
     ∙ and_both (list_all is_label_byte (map cleaned_byte base)) (list_all is_label_byte (codes "_" ++ decimal n)) (label_base base) (label_decimal n)
 
-written_mark : (q : Quoting) (base : List ℕ) (n : ℕ) → IsMark q (mark_text q (mark_name (map cleaned_byte base) n))
+written_mark : (q : Dialect) (base : List ℕ) (n : ℕ) → IsMark q (mark_text q (mark_name (map cleaned_byte base) n))
 written_mark Sqlite base n = question
 written_mark Postgresql base n = labelled (mark_name (map cleaned_byte base) n) (label_of base n)
 written_mark Mysql base n = format
 
 -- pieces behind what was written
-pub all_written : (G : OfText) (w : Written) (ps : List Piece) → ((t : List ℕ) (v : List Value) → Writes w.quoting ps t v → G (w.text ++ t) (w.values ++ v))
+pub all_written : (G : OfText) (w : Written) (ps : List Piece) → ((t : List ℕ) (v : List Value) → Writes w.dialect ps t v → G (w.text ++ t) (w.values ++ v))
     → G (put_all w ps).text (put_all w ps).values
 unfolding put_all put_piece
 all_written G w [] go = subst (λ t. G t w.values) (append-nil w.text) (subst (λ v. G (w.text ++ []) v) (append-nil w.values) (go [] [] ended))
@@ -143,11 +143,11 @@ all_written G w (words word ∷ ps) go =
     all_written G (put_piece w (words word)) ps (λ t v is. subst (λ s. G s (w.values ++ v)) (sym (append_assoc w.text word t)) (go (word ++ t) v (of_words is)))
 all_written G w (name n ∷ ps) go =
     all_written G (put_piece w (name n)) ps
-    (λ t v is. subst (λ s. G s (w.values ++ v)) (sym (append_assoc w.text (name_text w.quoting n) t)) (go (name_text w.quoting n ++ t) v (of_name (written_name w.quoting n) is)))
+    (λ t v is. subst (λ s. G s (w.values ++ v)) (sym (append_assoc w.text (name_text w.dialect n) t)) (go (name_text w.dialect n ++ t) v (of_name (written_name w.dialect n) is)))
 all_written G w (value base x ∷ ps) go =
     all_written G (put_piece w (value base x)) ps
     (λ t v is.
-    let m = mark_text w.quoting (next_name w.bases (map cleaned_byte base)) in
+    let m = mark_text w.dialect (next_name w.bases (map cleaned_byte base)) in
     subst (λ s. G s ((w.values ++ x ∷ []) ++ v)) (sym (append_assoc w.text m t))
     (subst (λ u. G (w.text ++ (m ++ t)) u) (sym (append_assoc w.values (x ∷ []) v))
-    (go (m ++ t) (x ∷ v) (of_value (written_mark w.quoting base (uses_of w.bases (map cleaned_byte base) + 1)) is))))
+    (go (m ++ t) (x ∷ v) (of_value (written_mark w.dialect base (uses_of w.bases (map cleaned_byte base) + 1)) is))))

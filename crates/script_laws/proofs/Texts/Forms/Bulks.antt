@@ -14,8 +14,8 @@ use Rattle.expr_types.specs.declared.select.Statement.TheVariants.{Bulk as of_bu
 use Rattle.sql_semantics.specs.Kinds.{column_in}
 use Rattle.sql_semantics.specs.Plain.{StandsIn, IsFilter, IsWritten, IfSet, alone, are_for, has_kind}
 use Rattle.sql_semantics.specs.PlainStatement.{IsFittingBulk}
-use Rattle.sql_text.specs.declared.names.Quoting.{Quoting}
-use Rattle.sql_text.specs.declared.names.Quoting.TheVariants.{Sqlite, Postgresql, Mysql}
+use Rattle.base_core.specs.declared.dialect.Dialect.{Dialect}
+use Rattle.base_core.specs.declared.dialect.Dialect.TheVariants.{Sqlite, Postgresql, Mysql}
 use Rattle.sql_text.specs.Columns.{column_name}
 use Rattle.sql_text.specs.Written.{Piece, words, nothing_written, with_separators}
 use Rattle.sql_rows.specs.Rows as rows
@@ -33,12 +33,12 @@ use Rattle.script_laws.specs.Texts.Forms.Read.{BulksAreRead}
 use Rattle.script_laws.proofs.Texts.Forms.Parts.{AllRead, items_read, expression_read, clause_read}
 
 -- names have no values
-pub no_values : {q : Quoting} {word a : List ℕ} {v : List Value} {xs : List (List ℕ)} → Items (Name q) word a v xs → v ≡ []
+pub no_values : {q : Dialect} {word a : List ℕ} {v : List Value} {xs : List (List ℕ)} → Items (Name q) word a v xs → v ≡ []
 no_values no_items = refl
 no_values (one_item (name is)) = refl
 no_values (more_items (name is) others) = no_values others
 
-pub default_is : (q : Quoting) → rows.default_word q ≡ default_word q
+pub default_is : (q : Dialect) → rows.default_word q ≡ default_word q
 default_is Sqlite = refl
 default_is Postgresql = refl
 default_is Mysql = refl
@@ -47,7 +47,7 @@ no_cells : (schema : Catalog) (table : TableId) (vs : List Value) → IsTrue (ar
 no_cells schema table [] h = refl
 no_cells schema table (v ∷ vs) h = absurd (cc)
 
-module _ (q : Quoting) (schema : Catalog) where
+module _ (q : Dialect) (schema : Catalog) where
   filter_stands : (table : TableId) (e : Option Expr) → IfSet (IsFilter schema (alone table)) e → IfSet (StandsIn schema (alone table)) e
   filter_stands table None h = tt
   filter_stands table (Some e) h = h.condition.stands
@@ -141,5 +141,5 @@ module _ (q : Quoting) (schema : Catalog) where
 
 pub bulks_are_read : BulksAreRead
 unfolding text_of
-bulks_are_read quoting schema it h =
-    all_written (λ t v. ReadsBulk quoting t v (bulk_form quoting schema it)) (nothing_written quoting) (statement_pieces quoting schema (of_bulk it)) (λ t v w. bulk_read quoting schema it h t v w)
+bulks_are_read dialect schema it h =
+    all_written (λ t v. ReadsBulk dialect t v (bulk_form dialect schema it)) (nothing_written dialect) (statement_pieces dialect schema (of_bulk it)) (λ t v w. bulk_read dialect schema it h t v w)

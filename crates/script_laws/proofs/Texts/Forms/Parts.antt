@@ -8,8 +8,8 @@ use Rattle.expr_types.specs.declared.expr.Expr.{Expr}
 use Rattle.expr_types.specs.declared.expr.Origin.{Origin}
 use Rattle.expr_types.specs.declared.select.Joined.{Joined}
 use Rattle.sql_semantics.specs.Plain.{StandsIn, AreJoined, IfSet}
-use Rattle.sql_text.specs.declared.names.Quoting.{Quoting}
-use Rattle.sql_text.specs.declared.names.Quoting.TheVariants.{Sqlite, Postgresql, Mysql}
+use Rattle.base_core.specs.declared.dialect.Dialect.{Dialect}
+use Rattle.base_core.specs.declared.dialect.Dialect.TheVariants.{Sqlite, Postgresql, Mysql}
 use Rattle.sql_text.specs.Words.{join_word}
 use Rattle.sql_text.specs.Written.{Piece, words, name, with_leading_separators, with_separators}
 use Rattle.sql_expressions.specs.Laid.{laid, part, param, source_pieces}
@@ -27,7 +27,7 @@ use Rattle.script_laws.specs.Texts.Forms.Forms.{JoinForm}
 use Rattle.script_laws.specs.Texts.Forms.Clauses.{Reading, Items, no_items, one_item, more_items, Clause, no_clause, clause, Series, no_series, series, Item, unnamed, as_name, Order, rising, falling, Joins, no_joins, join, Cut, no_cut, limit_alone, sqlite_offset, postgresql_offset, mysql_offset, sqlite_both, postgresql_both, mysql_both}
 use Rattle.script_laws.specs.Texts.Forms.Form.{joins_form, number}
 
-module _ (q : Quoting) where
+module _ (q : Dialect) where
   -- ---- items
 
   -- each item's text is read
@@ -54,7 +54,7 @@ module _ (q : Quoting) where
   joined_map pieces f word [] = refl
   joined_map pieces f word (x ∷ xs) = ap (λ (ps : List Piece). pieces (f x) ++ ps) (led_map pieces f word xs)
 
-module _ (q : Quoting) (schema : Catalog) where
+module _ (q : Dialect) (schema : Catalog) where
   -- ---- expressions
 
   pub expression_read : (scope : List Origin) (base : List ℕ) (e : Expr) → StandsIn schema scope e → (t : List ℕ) (v : List Value) → Writes q ((laid q schema e).pieces scope base) t v
@@ -143,16 +143,16 @@ module _ (q : Quoting) (schema : Catalog) where
 
 -- ---- cuts
 
-one_number : (q : Quoting) (G : OfText) (word : List ℕ) (n : ℕ) (ps : List Piece) (t : List ℕ) (v : List Value) → Writes q (words word ∷ cuts.number_piece n ∷ ps) t v
+one_number : (q : Dialect) (G : OfText) (word : List ℕ) (n : ℕ) (ps : List Piece) (t : List ℕ) (v : List Value) → Writes q (words word ∷ cuts.number_piece n ∷ ps) t v
     → ((m r : List ℕ) (u : List Value) → IsMark q m → Writes q ps r u → G (word ++ (m ++ r)) (number n ∷ u)) → G t v
 one_number q G word n ps t v w go = after_words G w (λ p rest. after_value (λ p u. G (word ++ p) u) rest (λ m r u is last. go m r u is last))
 
-last_number : (q : Quoting) (G : OfText) (word : List ℕ) (n : ℕ) (t : List ℕ) (v : List Value) → Writes q (words word ∷ cuts.number_piece n ∷ []) t v
+last_number : (q : Dialect) (G : OfText) (word : List ℕ) (n : ℕ) (t : List ℕ) (v : List Value) → Writes q (words word ∷ cuts.number_piece n ∷ []) t v
     → ((m : List ℕ) → IsMark q m → G (word ++ m) (number n ∷ [])) → G t v
 last_number q G word n t v w go =
     one_number q G word n [] t v w (λ m r u is last. at_end (λ r u. G (word ++ (m ++ r)) (number n ∷ u)) last (subst (λ p. G (word ++ p) (number n ∷ [])) (sym (append-nil m)) (go m is)))
 
-pub cut_read : (q : Quoting) (limit offset : Option ℕ) (t : List ℕ) (v : List Value) → Writes q (cuts.cut_pieces q limit offset) t v → Cut q t v (option_map number limit, option_map number offset)
+pub cut_read : (q : Dialect) (limit offset : Option ℕ) (t : List ℕ) (v : List Value) → Writes q (cuts.cut_pieces q limit offset) t v → Cut q t v (option_map number limit, option_map number offset)
 cut_read q None None t v w = at_end (λ p u. Cut q p u (None, None)) w no_cut
 cut_read q (Some l) None t v w = last_number q (λ p u. Cut q p u (Some (number l), None)) (codes " LIMIT ") l t v w (λ m is. limit_alone (number l) is)
 cut_read Sqlite None (Some o) t v w = last_number Sqlite (λ p u. Cut Sqlite p u (None, Some (number o))) (codes " LIMIT -1 OFFSET ") o t v w (λ m is. sqlite_offset (number o) is)

@@ -13,8 +13,8 @@ use Rattle.schema_core.specs.declared.table.TableSpec.{TableSpec}
 use Rattle.schema_core.specs.Catalog.{Catalog, spec_of}
 use Rattle.schema_core.specs.WellFormed.{IsWellFormed, is_row, may_hold}
 use Rattle.expr_types.specs.declared.select.Statement.TheVariants.{Row as of_row}
-use Rattle.sql_text.specs.declared.names.Quoting.{Quoting}
-use Rattle.sql_text.specs.declared.names.Quoting.TheVariants.{Sqlite, Postgresql, Mysql}
+use Rattle.base_core.specs.declared.dialect.Dialect.{Dialect}
+use Rattle.base_core.specs.declared.dialect.Dialect.TheVariants.{Sqlite, Postgresql, Mysql}
 use Rattle.sql_text.specs.Columns.{column_name}
 use Rattle.sql_text.specs.Written.{Piece, words, name as name_piece, value, nothing_written, with_leading_separators, with_separators}
 use Rattle.sql_rows.specs.Rows as r
@@ -105,7 +105,7 @@ some_cells drawn (c ∷ cs) (v ∷ cells) h p = by (drawn && c.key) h (λ g. som
     by true h rec = rec h
     by false h rec = record { first = (c.name, v); others = given_cells drawn cs cells; is = refl }
 
-module _ (q : Quoting) where
+module _ (q : Dialect) where
   -- ---- rows
 
   marks_read : (G : OfText) (x : List ℕ × Value) (xs : List (List ℕ × Value)) (t : List ℕ) (v : List Value) → Writes q (value x.0 x.1 ∷ with_leading_separators (codes ", ") cell_value xs) t v
@@ -191,7 +191,7 @@ module _ (q : Quoting) where
 -- ---- what is told
 
 -- a text without values tells these columns
-abbrev Tells : Quoting → List (List ℕ × List ℕ) → List ℕ → List Value → Type 0
+abbrev Tells : Dialect → List (List ℕ × List ℕ) → List ℕ → List Value → Type 0
 Tells q told t v = (v ≡ []) × Returned q t told
 
 told_by : (k : Bool) (table n : List ℕ) (ps : List Piece) (xs : List (List ℕ × List ℕ)) → ((t : List ℕ) (v : List Value) → Writes Postgresql ps t v → Tells Postgresql xs t v) → (t : List ℕ) (v : List Value)
@@ -212,14 +212,14 @@ told_drawn : (drawn : Bool) (spec : TableSpec) (t : List ℕ) (v : List Value) �
 told_drawn true spec t v w = told_names spec.name spec.columns t v w
 told_drawn false spec t v w = at_end (Tells Postgresql []) w (refl, none_returned)
 
-told_read : (q : Quoting) (drawn : Bool) (spec : TableSpec) (t : List ℕ) (v : List Value) → Writes q (r.returning_pieces q drawn spec) t v → Tells q (returned_columns q drawn spec) t v
+told_read : (q : Dialect) (drawn : Bool) (spec : TableSpec) (t : List ℕ) (v : List Value) → Writes q (r.returning_pieces q drawn spec) t v → Tells q (returned_columns q drawn spec) t v
 told_read Sqlite drawn spec t v w = at_end (Tells Sqlite []) w (refl, none_returned)
 told_read Postgresql drawn spec t v w = told_drawn drawn spec t v w
 told_read Mysql drawn spec t v w = at_end (Tells Mysql []) w (refl, none_returned)
 
 -- ---- statements
 
-module _ (q : Quoting) where
+module _ (q : Dialect) where
   fill_read : (spec : TableSpec) (drawn : Bool) (t : List ℕ) (v : List Value) → Writes q (words (codes "INSERT INTO ") ∷ name_piece spec.name ∷ words (r.default_word q) ∷ r.returning_pieces q drawn spec) t v
       → ReadsRow q t v (fill spec.name (returned_columns q drawn spec))
   fill_read spec drawn t v w =
@@ -290,5 +290,5 @@ module _ (q : Quoting) where
 
 pub rows_are_read : RowsAreRead
 unfolding text_of
-rows_are_read quoting schema it h =
-    all_written (λ t v. ReadsRow quoting t v (row_form quoting schema it)) (nothing_written quoting) (statement_pieces quoting schema (of_row it)) (λ t v w. row_text_read quoting schema it h t v w)
+rows_are_read dialect schema it h =
+    all_written (λ t v. ReadsRow dialect t v (row_form dialect schema it)) (nothing_written dialect) (statement_pieces dialect schema (of_row it)) (λ t v w. row_text_read dialect schema it h t v w)

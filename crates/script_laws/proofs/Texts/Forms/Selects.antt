@@ -8,7 +8,7 @@ use Rattle.expr_types.specs.declared.expr.Origin.{Origin}
 use Rattle.expr_types.specs.declared.select.Select.{Select}
 use Rattle.expr_types.specs.declared.select.Statement.TheVariants.{Select as of_select}
 use Rattle.sql_semantics.specs.Plain.{StandsIn, IsCondition, IsFilter, IsPlainSelect, IfSet, sources_of}
-use Rattle.sql_text.specs.declared.names.Quoting.{Quoting}
+use Rattle.base_core.specs.declared.dialect.Dialect.{Dialect}
 use Rattle.sql_text.specs.Words.{select_word}
 use Rattle.sql_text.specs.Written.{Piece, words, nothing_written}
 use Rattle.sql_expressions.specs.Laid.{source_pieces}
@@ -26,7 +26,7 @@ use Rattle.script_laws.specs.Texts.Forms.Form.{number, select_form}
 use Rattle.script_laws.specs.Texts.Forms.Read.{SelectsAreRead}
 use Rattle.script_laws.proofs.Texts.Forms.Parts.{items_read, all_items, clause_read, groups_read, order_read, joins_read, cut_read}
 
-module _ (q : Quoting) (schema : Catalog) where
+module _ (q : Dialect) (schema : Catalog) where
   filter_stands : (scope : List Origin) (e : Option Expr) → IfSet (IsFilter schema scope) e → IfSet (StandsIn schema scope) e
   filter_stands scope None h = tt
   filter_stands scope (Some e) h = h.condition.stands
@@ -130,5 +130,5 @@ module _ (q : Quoting) (schema : Catalog) where
 
 pub selects_are_read : SelectsAreRead
 unfolding text_of
-selects_are_read quoting schema it h =
-    all_written (λ t v. ReadsSelect quoting t v (select_form quoting schema it)) (nothing_written quoting) (statement_pieces quoting schema (of_select it)) (λ t v w. select_read quoting schema it h t v w)
+selects_are_read dialect schema it h =
+    all_written (λ t v. ReadsSelect dialect t v (select_form dialect schema it)) (nothing_written dialect) (statement_pieces dialect schema (of_select it)) (λ t v w. select_read dialect schema it h t v w)

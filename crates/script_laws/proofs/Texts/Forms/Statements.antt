@@ -6,6 +6,6 @@ use Rattle.script_laws.proofs.Texts.Forms.Rows.{rows_are_read}
 use Rattle.script_laws.proofs.Texts.Forms.Selects.{selects_are_read}
 
 pub statements_are_read : StatementsAreRead
-statements_are_read quoting schema (of_select it) plain = selects_are_read quoting schema it plain
-statements_are_read quoting schema (of_bulk it) plain = bulks_are_read quoting schema it plain
-statements_are_read quoting schema (of_row it) plain = rows_are_read quoting schema it plain
+statements_are_read dialect schema (of_select it) plain = selects_are_read dialect schema it plain
+statements_are_read dialect schema (of_bulk it) plain = bulks_are_read dialect schema it plain
+statements_are_read dialect schema (of_row it) plain = rows_are_read dialect schema it plain

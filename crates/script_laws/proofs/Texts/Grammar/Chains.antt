@@ -1,7 +1,7 @@
 -- Operands, products and sums.
 use Rattle.std.proofs.Common.{◌≡◌, ℕ, suc, ◌+◌, ◌-◌, ◌≤◌, ◌++◌, List, [], Some, None, codes, refl, ap, subst, ◌∙◌, append_assoc, arith}
 use Rattle.base_core.specs.declared.value.Value.{Value}
-use Rattle.sql_text.specs.declared.names.Quoting.{Quoting}
+use Rattle.base_core.specs.declared.dialect.Dialect.{Dialect}
 use Rattle.script_laws.specs.Texts.Grammar.Trees.{Sign, Sql, negative, sum, product}
 use Rattle.script_laws.specs.Texts.Grammar.Words.{sign_word}
 use Rattle.script_laws.specs.Texts.Grammar.Reads.{Added, Multiplied, Signed, Operand}
@@ -10,7 +10,7 @@ use Rattle.script_laws.proofs.Texts.Grammar.Finding.{sign_found, stops_tighter, 
 use Rattle.script_laws.proofs.Texts.Grammar.Naming.{Begins}
 use Rattle.script_laws.proofs.Texts.Grammar.Found.{Found, Chain, starts_signed, begins_wider, begins_so, lacks_byte, made, one_deeper, rearranged}
 
-module _ (q : Quoting) where
+module _ (q : Dialect) where
   -- ---- 7
 
   pub signed_found : {a : List ℕ} {v : List Value} {x : Sql} → Found q Operand a v x → Found q Signed a v x

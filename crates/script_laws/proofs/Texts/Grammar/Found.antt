@@ -1,7 +1,7 @@
 -- What the reader finds of a text, and how it finds it.
 use Rattle.std.proofs.Common.{◌≡◌, ℕ, zero, suc, ◌+◌, ◌≤◌, ◌++◌, ◌==◌, Bool, true, false, ◌||◌, List, ◌∷◌, Some, None, refl, ap, ◌∙◌, append_assoc, arith}
 use Rattle.base_core.specs.declared.value.Value.{Value}
-use Rattle.sql_text.specs.declared.names.Quoting.{Quoting}
+use Rattle.base_core.specs.declared.dialect.Dialect.{Dialect}
 use Rattle.script_laws.specs.Texts.Grammar.Trees.{Sql, Sqls}
 use Rattle.script_laws.specs.Texts.Grammar.Reads.{Level, Either, Both, Opposite, Tested, Added, Multiplied, Signed, Operand, tighter}
 use Rattle.script_laws.proofs.Texts.Grammar.Reader.{after, Out, at, read, stops}
@@ -61,35 +61,35 @@ lacks_byte {is} begins c out rest word =
 -- ---- what is found
 
 -- from some bound on, the text of a level and its values are read as this tree, up to where no such text goes on
-pub record Found (q : Quoting) (l : Level) (a : List ℕ) (v : List Value) (x : Sql) : Type 0 where
+pub record Found (q : Dialect) (l : Level) (a : List ℕ) (v : List Value) (x : Sql) : Type 0 where
   pub begins : Begins (starts l) a
   pub bound : ℕ
   pub gives : (k : ℕ) → bound ≤ k → (rest : List ℕ) (left : List Value) → stops q l rest ≡ true → (read q k).tree l (a ++ rest) (v ++ left) ≡ Some (x, rest, left)
 
 -- what goes on behind a product or a sum
-abbrev pub go_on : Quoting → ℕ → Level → Sql → List ℕ → List Value → Out Sql
+abbrev pub go_on : Dialect → ℕ → Level → Sql → List ℕ → List Value → Out Sql
 go_on q k Multiplied x rest left = (read q k).products x rest left
 go_on q k Added x rest left = (read q k).sums x rest left
 go_on q k l x rest left = Some (x, rest, left)
 
 -- the same of a text that may go on
-pub record Chain (q : Quoting) (l : Level) (a : List ℕ) (v : List Value) (x : Sql) : Type 0 where
+pub record Chain (q : Dialect) (l : Level) (a : List ℕ) (v : List Value) (x : Sql) : Type 0 where
   pub turns : ℕ
   pub bound : ℕ
   pub gives : (j k : ℕ) → j ≡ turns + k → bound ≤ k → (rest : List ℕ) (left : List Value) → stops q (tighter l) rest ≡ true
       → (read q j).tree l (a ++ rest) (v ++ left) ≡ go_on q k l x rest left
 
-abbrev pub IfChain : Quoting → (l : Level) → List ℕ → List Value → Sql → Type 0
+abbrev pub IfChain : Dialect → (l : Level) → List ℕ → List Value → Sql → Type 0
 IfChain q Multiplied a v x = Chain q Multiplied a v x
 IfChain q Added a v x = Chain q Added a v x
 IfChain q l a v x = Unit {0}
 
-pub record Parsed (q : Quoting) (l : Level) (a : List ℕ) (v : List Value) (x : Sql) : Type 0 where
+pub record Parsed (q : Dialect) (l : Level) (a : List ℕ) (v : List Value) (x : Sql) : Type 0 where
   pub found : Found q l a v x
   pub chain : IfChain q l a v x
 
 -- texts of a level with a word between
-pub record FoundParts (q : Quoting) (l : Level) (word a : List ℕ) (v : List Value) (xs : Sqls) : Type 0 where
+pub record FoundParts (q : Dialect) (l : Level) (word a : List ℕ) (v : List Value) (xs : Sqls) : Type 0 where
   pub begins : Begins (starts l) a
   pub bound : ℕ
   pub gives : (k : ℕ) → bound ≤ k → (rest : List ℕ) (left : List Value) → stops q l rest ≡ true → after word rest ≡ None
@@ -102,7 +102,7 @@ pub one_deeper : (P : ℕ → Type 0) (b k : ℕ) → suc b ≤ k → ((j : ℕ)
 one_deeper P b zero h f = absurd (omega (arith, h))
 one_deeper P b (suc j) h f = f j (omega (arith, h))
 
-pub made : {q : Quoting} {l : Level} {a : List ℕ} {v : List Value} {x : Sql} → Begins (starts l) a → (b : ℕ)
+pub made : {q : Dialect} {l : Level} {a : List ℕ} {v : List Value} {x : Sql} → Begins (starts l) a → (b : ℕ)
     → ((j : ℕ) → b ≤ j → (rest : List ℕ) (left : List Value) → stops q l rest ≡ true → at q (read q j) l (a ++ rest) (v ++ left) ≡ Some (x, rest, left)) → Found q l a v x
 unfolding read
 made {q} {l} {a} {v} {x} begins b step = record {

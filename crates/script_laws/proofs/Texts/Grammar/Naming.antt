@@ -3,8 +3,8 @@ use Rattle.std.proofs.Common.{◌≡◌, ℕ, ◌++◌, ◌==◌, Bool, true, fa
 use Rattle.std.specs.List.{list_all, list_any}
 use Rattle.std.proofs.lemmas.Bool.{eq-eqb, eqb-true, not-false, not-true, and_parts, or_parts}
 use Rattle.base_core.specs.declared.value.Value.{Value}
-use Rattle.sql_text.specs.declared.names.Quoting.{Quoting}
-use Rattle.sql_text.specs.declared.names.Quoting.TheVariants.{Sqlite, Postgresql, Mysql}
+use Rattle.base_core.specs.declared.dialect.Dialect.{Dialect}
+use Rattle.base_core.specs.declared.dialect.Dialect.TheVariants.{Sqlite, Postgresql, Mysql}
 use Rattle.sql_text.specs.Names.{needs_quotes, begins_plain, is_plain_byte, is_lower, is_digit, quote_of, quoted_name, with_byte_doubled, with_percents, is_reserved}
 use Rattle.script_laws.specs.Texts.Grammar.Reads.{IsName, bare, in_quotes, IsMark, question, labelled, format, is_label_byte, AreMarks, one_mark, more_marks}
 use Rattle.script_laws.proofs.Texts.Grammar.Reader.{after, quoted_in, with_byte, halved, without_percents, plain_in, plain_by, unquoted, name_in, mark_in, behind_label, marks_in, marks_by, more_values, behind, ends_name}
@@ -70,7 +70,7 @@ quoted_doubled mark (c ∷ text) rest ends = quoted_by mark c text rest (quoted_
 
 -- ---- names
 
-percents_read : (q : Quoting) (name : List ℕ) → without_percents q (with_percents q name) ≡ name
+percents_read : (q : Dialect) (name : List ℕ) → without_percents q (with_percents q name) ≡ name
 percents_read Sqlite name = refl
 percents_read Postgresql name = halved_doubled 37 name
 percents_read Mysql name = halved_doubled 37 name
@@ -79,7 +79,7 @@ percents_read Mysql name = halved_doubled 37 name
 no_plain : (c : ℕ) (cs : List ℕ) → ends_name (c ∷ cs) ≡ true → is_plain_byte c ≡ false
 no_plain c cs ends = not-true (is_plain_byte c) (and_parts (not (is_plain_byte c)) (not (c == 34)) (and_parts (not (is_plain_byte c) && not (c == 34)) (not (c == 96)) ends).0).0
 
-ends_quote : (q : Quoting) (rest : List ℕ) → ends_name rest ≡ true → EndsQuote (quote_of q) rest
+ends_quote : (q : Dialect) (rest : List ℕ) → ends_name rest ≡ true → EndsQuote (quote_of q) rest
 ends_quote q [] ends = tt
 ends_quote Sqlite (c ∷ cs) ends = not-true (c == 34) (and_parts (not (is_plain_byte c)) (not (c == 34)) (and_parts (not (is_plain_byte c) && not (c == 34)) (not (c == 96)) ends).0).1
 ends_quote Postgresql (c ∷ cs) ends = not-true (c == 34) (and_parts (not (is_plain_byte c)) (not (c == 34)) (and_parts (not (is_plain_byte c) && not (c == 34)) (not (c == 96)) ends).0).1
@@ -157,22 +157,22 @@ bare_name (c ∷ cs) e =
       plain = one.1;
     }
 
-quote_starts : (q : Quoting) → starts_name (quote_of q) ≡ true
+quote_starts : (q : Dialect) → starts_name (quote_of q) ≡ true
 quote_starts Sqlite = refl
 quote_starts Postgresql = refl
 quote_starts Mysql = refl
 
-quote_not_plain : (q : Quoting) → is_plain_byte (quote_of q) ≡ false
+quote_not_plain : (q : Dialect) → is_plain_byte (quote_of q) ≡ false
 quote_not_plain Sqlite = refl
 quote_not_plain Postgresql = refl
 quote_not_plain Mysql = refl
 
-pub name_begins : {q : Quoting} {a name : List ℕ} → IsName q a name → Begins starts_name a
+pub name_begins : {q : Dialect} {a name : List ℕ} → IsName q a name → Begins starts_name a
 name_begins (bare {name = name} e) = (bare_name name e).begins
 name_begins {q} (in_quotes {name = name}) =
     record { first = quote_of q; following = with_byte_doubled (quote_of q) (with_percents q name) ++ quote_of q ∷ []; joined = refl; fits = quote_starts q }
 
-bare_read : (q : Quoting) (name rest : List ℕ) → IsBare name → ends_name rest ≡ true → name_in q (name ++ rest) ≡ Some (name, rest)
+bare_read : (q : Dialect) (name rest : List ℕ) → IsBare name → ends_name rest ≡ true → name_in q (name ++ rest) ≡ Some (name, rest)
 unfolding name_in
 bare_read q [] rest is ends = absurd (no_first is.begins.joined)
   where
@@ -183,7 +183,7 @@ bare_read q (c ∷ cs) rest is ends =
     ap (λ b. cond b (unquoted q (quoted_in (quote_of q) (cs ++ rest))) (Some (plain_in (c ∷ cs ++ rest)))) (unlike is_plain_byte c (quote_of q) (not-false (is_plain_byte c) plain.0) (quote_not_plain q))
     ∙ ap Some (plain_read (c ∷ cs) rest is.plain ends)
 
-quoted_read : (q : Quoting) (name rest : List ℕ) → ends_name rest ≡ true → name_in q (quoted_name q name ++ rest) ≡ Some (name, rest)
+quoted_read : (q : Dialect) (name rest : List ℕ) → ends_name rest ≡ true → name_in q (quoted_name q name ++ rest) ≡ Some (name, rest)
 unfolding name_in
 quoted_read q name rest ends =
     ap (λ b. cond b (unquoted q (quoted_in (quote_of q) ((with_byte_doubled (quote_of q) (with_percents q name) ++ quote_of q ∷ []) ++ rest))) (Some (plain_in (quoted_name q name ++ rest)))) (same_byte (quote_of q))
@@ -191,7 +191,7 @@ quoted_read q name rest ends =
     ∙ (ap (unquoted q) (quoted_doubled (quote_of q) (with_percents q name) rest (ends_quote q rest ends)) ∙ ap (λ (n : List ℕ). Some (n, rest)) (percents_read q name)))
 
 -- a name is read to its end
-pub name_read : {q : Quoting} {a name : List ℕ} → IsName q a name → (rest : List ℕ) → ends_name rest ≡ true → name_in q (a ++ rest) ≡ Some (name, rest)
+pub name_read : {q : Dialect} {a name : List ℕ} → IsName q a name → (rest : List ℕ) → ends_name rest ≡ true → name_in q (a ++ rest) ≡ Some (name, rest)
 name_read {q} (bare {name = name} e) rest ends = bare_read q name rest (bare_name name e) ends
 name_read {q} (in_quotes {name = name}) rest ends = quoted_read q name rest ends
 
@@ -201,7 +201,7 @@ name_read {q} (in_quotes {name = name}) rest ends = quoted_read q name rest ends
 abbrev pub starts_mark : ℕ → Bool
 starts_mark c = c == 63 || c == 37
 
-pub mark_begins : {q : Quoting} {a : List ℕ} → IsMark q a → Begins starts_mark a
+pub mark_begins : {q : Dialect} {a : List ℕ} → IsMark q a → Begins starts_mark a
 mark_begins question = record { first = 63; following = []; joined = refl; fits = refl }
 mark_begins (labelled label is) = record { first = 37; following = 40 ∷ (label ++ codes ")s"); joined = refl; fits = refl }
 mark_begins format = record { first = 37; following = 115 ∷ []; joined = refl; fits = refl }
@@ -212,7 +212,7 @@ label_read (c ∷ cs) rest is =
     let parts = and_parts (is_label_byte c) (list_all is_label_byte cs) is in
     ap (λ b. cond b (behind_label (cs ++ (codes ")s" ++ rest))) (c ∷ cs ++ (codes ")s" ++ rest))) parts.0 ∙ label_read cs rest parts.1
 
-pub mark_read : {q : Quoting} {a : List ℕ} → IsMark q a → (rest : List ℕ) → mark_in q (a ++ rest) ≡ Some rest
+pub mark_read : {q : Dialect} {a : List ℕ} → IsMark q a → (rest : List ℕ) → mark_in q (a ++ rest) ≡ Some rest
 unfolding mark_in
 mark_read question rest = refl
 mark_read (labelled label is) rest =
@@ -220,7 +220,7 @@ mark_read (labelled label is) rest =
 mark_read format rest = refl
 
 -- all marks are read, each with its value
-pub marks_read : {q : Quoting} {a : List ℕ} {w : List Value} → AreMarks q a w → (rest : List ℕ) (left : List Value) → after (codes ", ") rest ≡ None → marks_in q (w ++ left) (a ++ rest) ≡ Some (w, rest, left)
+pub marks_read : {q : Dialect} {a : List ℕ} {w : List Value} → AreMarks q a w → (rest : List ℕ) (left : List Value) → after (codes ", ") rest ≡ None → marks_in q (w ++ left) (a ++ rest) ≡ Some (w, rest, left)
 marks_read {q} (one_mark {a = a} {v = v} m) rest left ends =
     ap (λ (o : Option (List ℕ)). behind o (λ text. marks_by v (marks_in q left) left text (after (codes ", ") text))) (mark_read m rest) ∙ ap (marks_by v (marks_in q left) left rest) ends
 marks_read {q} (more_marks {a = a} {b = b} {v = v} {w = w} m ms) rest left ends =
@@ -228,7 +228,7 @@ marks_read {q} (more_marks {a = a} {b = b} {v = v} {w = w} m ms) rest left ends 
     ∙ (ap (λ (o : Option (List ℕ)). behind o (λ text. marks_by v (marks_in q (w ++ left)) (w ++ left) text (after (codes ", ") text))) (mark_read m (codes ", " ++ (b ++ rest)))
     ∙ ap (more_values v) (marks_read ms rest left ends))
 
-pub marks_begin : {q : Quoting} {a : List ℕ} {w : List Value} → AreMarks q a w → Begins starts_mark a
+pub marks_begin : {q : Dialect} {a : List ℕ} {w : List Value} → AreMarks q a w → Begins starts_mark a
 marks_begin (one_mark m) = mark_begins m
 marks_begin (more_marks {b = b} m ms) =
     let begins = mark_begins m in

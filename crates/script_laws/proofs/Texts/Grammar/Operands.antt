@@ -1,8 +1,8 @@
 -- Operands: what stands in parentheses, marks, columns, functions and `exists`.
 use Rattle.std.proofs.Common.{◌≡◌, ℕ, ◌≤◌, ◌++◌, ◌==◌, ◌||◌, Bool, true, false, List, [], ◌∷◌, Some, None, codes, refl, ap, ◌∙◌, append_assoc}
 use Rattle.base_core.specs.declared.value.Value.{Value}
-use Rattle.sql_text.specs.declared.names.Quoting.{Quoting}
-use Rattle.sql_text.specs.declared.names.Quoting.TheVariants.{Sqlite, Postgresql, Mysql}
+use Rattle.base_core.specs.declared.dialect.Dialect.{Dialect}
+use Rattle.base_core.specs.declared.dialect.Dialect.TheVariants.{Sqlite, Postgresql, Mysql}
 use Rattle.script_laws.specs.Texts.Grammar.Trees.{Function, Count, Sum, Min, Max, Lower, Upper, Length, Coalesce, Concat, Source, Sql, column, mark, call, count_all, exists, Sqls}
 use Rattle.script_laws.specs.Texts.Grammar.Words.{function_word}
 use Rattle.script_laws.specs.Texts.Grammar.Reads.{IsName, IsMark, IsSource, named, aliased, Either, Operand}
@@ -26,7 +26,7 @@ name_starts c is =
     or_left (starts_name c || c == 40 || c == 63 || c == 37) (c == 69)
     (or_left (starts_name c || c == 40 || c == 63) (c == 37) (or_left (starts_name c || c == 40) (c == 63) (or_left (starts_name c) (c == 40) is)))
 
-module _ (q : Quoting) where
+module _ (q : Dialect) where
   -- `(a)`
   pub enclosed_found : {a : List ℕ} {v : List Value} {x : Sql} → Found q Either a v x → Found q Operand (codes "(" ++ (a ++ codes ")")) v x
   enclosed_found {a} {v} {x} f =
@@ -101,11 +101,11 @@ module _ (q : Quoting) where
   -- ---- functions
 
   -- a function's word begins an operand of its own
-  abbrev Calls : Quoting → Function → List ℕ → List ℕ → Type 0
+  abbrev Calls : Dialect → Function → List ℕ → List ℕ → Type 0
   Calls d by word text =
       Begins starts_operand word × ((r : Readers) (values : List Value) → at d r Operand (word ++ text) values ≡ operands_by r by text values (after (codes "*)") text))
 
-  call_word : (d : Quoting) (by : Function) (word text : List ℕ) → function_word d by ≡ Some word → Calls d by word text
+  call_word : (d : Dialect) (by : Function) (word text : List ℕ) → function_word d by ≡ Some word → Calls d by word text
   unfolding mark_in name_in function_of
   call_word d Count word text is = by_word (λ w. Calls d Count w text) _ word is (in_each (λ e. Calls e Count (codes "count(") text) (begins_so starts_operand _ _ refl, λ r values. refl) (begins_so starts_operand _ _ refl, λ r values. refl) (begins_so starts_operand _ _ refl, λ r values. refl) d)
   call_word d Sum word text is = by_word (λ w. Calls d Sum w text) _ word is (in_each (λ e. Calls e Sum (codes "sum(") text) (begins_so starts_operand _ _ refl, λ r values. refl) (begins_so starts_operand _ _ refl, λ r values. refl) (begins_so starts_operand _ _ refl, λ r values. refl) d)

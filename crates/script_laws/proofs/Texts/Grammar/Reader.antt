@@ -2,8 +2,8 @@
 -- that the grammar has not.
 use Rattle.std.proofs.Common.{ℕ, zero, suc, ◌++◌, ◌==◌, Bool, true, false, not, ◌&&◌, if◌then◌else◌, List, [], ◌∷◌, Option, Some, None, codes}
 use Rattle.base_core.specs.declared.value.Value.{Value}
-use Rattle.sql_text.specs.declared.names.Quoting.{Quoting}
-use Rattle.sql_text.specs.declared.names.Quoting.TheVariants.{Sqlite, Postgresql, Mysql}
+use Rattle.base_core.specs.declared.dialect.Dialect.{Dialect}
+use Rattle.base_core.specs.declared.dialect.Dialect.TheVariants.{Sqlite, Postgresql, Mysql}
 use Rattle.sql_text.specs.Names.{is_plain_byte, quote_of}
 use Rattle.sql_text.specs.Words.{null_word, in_word, empty_word, between_word}
 use Rattle.script_laws.specs.Texts.Grammar.Trees.{Test, Equal, NotEqual, Less, LessEqual, Greater, GreaterEqual, Like, Ilike, Distinct, Sign, Plus, Minus, Beside, Function, Count, Sum, Min, Max, Lower, Upper, Length, Coalesce, Concat, Source, Sql, column, mark, test, null_test, in_list, between, all_of, any_of, opposite, sum, product, negative, call, count_all, exists, Sqls, none, more}
@@ -39,7 +39,7 @@ pub data Tail : Type 0 where
   lists : Bool → Tail
   ranges : Bool → Tail
 
-abbrev tests : Quoting → List (List ℕ × Tail) → List (List ℕ × Tail)
+abbrev tests : Dialect → List (List ℕ × Tail) → List (List ℕ × Tail)
 tests q entries =
     worded (test_word q Equal) (ends Equal) (worded (test_word q NotEqual) (ends NotEqual)
     (worded (test_word q Less) (ends Less) (worded (test_word q LessEqual) (ends LessEqual)
@@ -48,23 +48,23 @@ tests q entries =
     (worded (test_word q (Ilike false)) (ends (Ilike false)) (worded (test_word q (Ilike true)) (ends (Ilike true))
     (worded (test_word q (Distinct false)) (ends (Distinct false)) (worded (test_word q (Distinct true)) (ends (Distinct true)) entries)))))))))))
 
-unfoldable pub tails : Quoting → List (List ℕ × Tail)
+unfoldable pub tails : Dialect → List (List ℕ × Tail)
 tails q =
     (null_word true, nulls true) ∷ (null_word false, nulls false)
     ∷ tests q ((empty_word true, empties true) ∷ (empty_word false, empties false) ∷ (in_word true, lists true) ∷ (in_word false, lists false)
     ∷ (between_word true, ranges true) ∷ (between_word false, ranges false) ∷ [])
 
-unfoldable pub signs : Quoting → List (List ℕ × Sign)
+unfoldable pub signs : Dialect → List (List ℕ × Sign)
 signs q = worded (sign_word q Plus) Plus (worded (sign_word q Minus) Minus (worded (sign_word q Beside) Beside []))
 
-abbrev functions : Quoting → List (List ℕ × Function)
+abbrev functions : Dialect → List (List ℕ × Function)
 functions q =
     worded (function_word q Count) Count (worded (function_word q Sum) Sum (worded (function_word q Min) Min (worded (function_word q Max) Max
     (worded (function_word q Lower) Lower (worded (function_word q Upper) Upper (worded (function_word q Length) Length
     (worded (function_word q Coalesce) Coalesce (worded (function_word q Concat) Concat []))))))))
 
 -- the function of a name with its parenthesis
-unfoldable pub function_of : Quoting → List ℕ → Option (Function × List ℕ)
+unfoldable pub function_of : Dialect → List ℕ → Option (Function × List ℕ)
 function_of q name = find (functions q) (name ++ codes "(")
 
 -- ---- results
@@ -100,7 +100,7 @@ halved byte [] = []
 halved byte (c ∷ []) = c ∷ []
 halved byte (c ∷ d ∷ rest) = if c == byte then byte ∷ halved byte rest else c ∷ halved byte (d ∷ rest)
 
-abbrev pub without_percents : Quoting → List ℕ → List ℕ
+abbrev pub without_percents : Dialect → List ℕ → List ℕ
 without_percents Sqlite text = text
 without_percents Postgresql text = halved 37 text
 without_percents Mysql text = halved 37 text
@@ -114,11 +114,11 @@ abbrev pub plain_in : List ℕ → List ℕ × List ℕ
 plain_in [] = ([], [])
 plain_in (c ∷ cs) = plain_by c cs (plain_in cs) (is_plain_byte c)
 
-abbrev pub unquoted : Quoting → Option (List ℕ × List ℕ) → Option (List ℕ × List ℕ)
+abbrev pub unquoted : Dialect → Option (List ℕ × List ℕ) → Option (List ℕ × List ℕ)
 unquoted q None = None
 unquoted q (Some found) = Some (without_percents q found.0, found.1)
 
-unfoldable pub name_in : Quoting → List ℕ → Option (List ℕ × List ℕ)
+unfoldable pub name_in : Dialect → List ℕ → Option (List ℕ × List ℕ)
 name_in q [] = None
 name_in q (c ∷ cs) = if c == quote_of q then unquoted q (quoted_in (quote_of q) cs) else Some (plain_in (c ∷ cs))
 
@@ -131,7 +131,7 @@ labelled_in None = None
 labelled_in (Some rest) = after (codes ")s") (behind_label rest)
 
 -- the text behind a mark
-unfoldable pub mark_in : Quoting → List ℕ → Option (List ℕ)
+unfoldable pub mark_in : Dialect → List ℕ → Option (List ℕ)
 mark_in Sqlite text = after (codes "?") text
 mark_in Postgresql text = labelled_in (after (codes "%(") text)
 mark_in Mysql text = after (codes "%s") text
@@ -148,7 +148,7 @@ abbrev pub marks_by : Value → (List ℕ → Out (List Value)) → List Value �
 marks_by v go left rest None = Some (v ∷ [], rest, left)
 marks_by v go left rest (Some text) = more_values v (go text)
 
-abbrev pub marks_in : Quoting → List Value → List ℕ → Out (List Value)
+abbrev pub marks_in : Dialect → List Value → List ℕ → Out (List Value)
 marks_in q [] text = None
 marks_in q (v ∷ values) text = behind (mark_in q text) (λ rest. marks_by v (marks_in q values) values rest (after (codes ", ") rest))
 
@@ -187,7 +187,7 @@ one_or list (more x (more y ys)) = list (more x (more y ys))
 abbrev pub closed : {A : Type 0} → A → List ℕ → List Value → Out A
 closed x text left = behind (after (codes ")") text) (λ rest. Some (x, rest, left))
 
-abbrev pub tail_by : Quoting → Readers → Sql → List ℕ → List Value → Tail → Out Sql
+abbrev pub tail_by : Dialect → Readers → Sql → List ℕ → List Value → Tail → Out Sql
 tail_by q r x rest values (ends by) = next (r.tree Added rest values) (λ y rest left. Some (test by x y, rest, left))
 tail_by q r x rest values (nulls negated) = Some (null_test negated x, rest, values)
 tail_by q r x rest values (empties negated) = Some (in_list negated x [], rest, values)
@@ -196,7 +196,7 @@ tail_by q r x rest values (ranges negated) =
     next (r.tree Added rest values)
     (λ y rest left. behind (after (codes " AND ") rest) (λ rest. next (r.tree Added rest left) (λ z rest left. Some (between negated x y z, rest, left))))
 
-abbrev pub tested_by : Quoting → Readers → Sql → List ℕ → List Value → Option (Tail × List ℕ) → Out Sql
+abbrev pub tested_by : Dialect → Readers → Sql → List ℕ → List Value → Option (Tail × List ℕ) → Out Sql
 tested_by q r x text values None = Some (x, text, values)
 tested_by q r x text values (Some found) = tail_by q r x found.1 values found.0
 
@@ -212,15 +212,15 @@ abbrev pub existing_in : Readers → Source → List Value → List ℕ → Out 
 existing_in r source values text =
     behind (after (codes " WHERE ") text) (λ rest. next (r.tree Either rest values) (λ x. closed (exists source x)))
 
-abbrev pub aliased_in : Quoting → Readers → List ℕ → List Value → Option (List ℕ × List ℕ) → Out Sql
+abbrev pub aliased_in : Dialect → Readers → List ℕ → List Value → Option (List ℕ × List ℕ) → Out Sql
 aliased_in q r table values None = None
 aliased_in q r table values (Some found) = existing_in r (record { table = table; alias = Some found.0 }) values found.1
 
-abbrev pub aliased_by : Quoting → Readers → List ℕ → List Value → List ℕ → Option (List ℕ) → Out Sql
+abbrev pub aliased_by : Dialect → Readers → List ℕ → List Value → List ℕ → Option (List ℕ) → Out Sql
 aliased_by q r table values text None = existing_in r (record { table = table; alias = None }) values text
 aliased_by q r table values text (Some rest) = aliased_in q r table values (name_in q rest)
 
-abbrev pub exists_by : Quoting → Readers → List Value → Option (List ℕ × List ℕ) → Out Sql
+abbrev pub exists_by : Dialect → Readers → List Value → Option (List ℕ × List ℕ) → Out Sql
 exists_by q r values None = None
 exists_by q r values (Some found) = aliased_by q r found.0 values found.1 (after (codes " AS ") found.1)
 
@@ -236,15 +236,15 @@ abbrev pub call_by : Readers → List ℕ → List Value → Option (Function ×
 call_by r text values None = None
 call_by r text values (Some found) = operands_by r found.0 text values (after (codes "*)") text)
 
-abbrev pub named_by : Quoting → Readers → List ℕ → List ℕ → List Value → Option (List ℕ) → Out Sql
+abbrev pub named_by : Dialect → Readers → List ℕ → List ℕ → List Value → Option (List ℕ) → Out Sql
 named_by q r name text values (Some rest) = column_by name values (name_in q rest)
 named_by q r name text values None = behind (after (codes "(") text) (λ rest. call_by r rest values (function_of q name))
 
-abbrev pub name_by : Quoting → Readers → List Value → Option (List ℕ × List ℕ) → Out Sql
+abbrev pub name_by : Dialect → Readers → List Value → Option (List ℕ × List ℕ) → Out Sql
 name_by q r values None = None
 name_by q r values (Some found) = named_by q r found.0 found.1 values (after (codes ".") found.1)
 
-abbrev pub word_by : Quoting → Readers → List ℕ → List Value → Option (List ℕ) → Out Sql
+abbrev pub word_by : Dialect → Readers → List ℕ → List Value → Option (List ℕ) → Out Sql
 word_by q r text values None = name_by q r values (name_in q text)
 word_by q r text values (Some rest) = exists_by q r values (name_in q rest)
 
@@ -252,15 +252,15 @@ abbrev pub value_by : List ℕ → List Value → Out Sql
 value_by rest [] = None
 value_by rest (v ∷ values) = Some (mark v, rest, values)
 
-abbrev pub mark_by : Quoting → Readers → List ℕ → List Value → Option (List ℕ) → Out Sql
+abbrev pub mark_by : Dialect → Readers → List ℕ → List Value → Option (List ℕ) → Out Sql
 mark_by q r text values None = word_by q r text values (after (codes "EXISTS (SELECT 1 FROM ") text)
 mark_by q r text values (Some rest) = value_by rest values
 
-abbrev pub operand_by : Quoting → Readers → List ℕ → List Value → Option (List ℕ) → Out Sql
+abbrev pub operand_by : Dialect → Readers → List ℕ → List Value → Option (List ℕ) → Out Sql
 operand_by q r text values None = mark_by q r text values (mark_in q text)
 operand_by q r text values (Some rest) = next (r.tree Either rest values) (λ x. closed x)
 
-abbrev pub at : Quoting → Readers → Level → Reader Sql
+abbrev pub at : Dialect → Readers → Level → Reader Sql
 at q r Either text values = next (r.parts Both (codes " OR ") text values) (λ xs rest left. Some (one_or any_of xs, rest, left))
 at q r Both text values = next (r.parts Opposite (codes " AND ") text values) (λ xs rest left. Some (one_or all_of xs, rest, left))
 at q r Opposite text values = not_by r text values (after (codes "NOT ") text)
@@ -270,7 +270,7 @@ at q r Multiplied text values = next (r.tree Signed text values) (λ x. r.produc
 at q r Signed text values = signed_by r text values (after (codes "-") text)
 at q r Operand text values = operand_by q r text values (after (codes "(") text)
 
-abbrev pub turn : Quoting → Readers → Readers
+abbrev pub turn : Dialect → Readers → Readers
 turn q r = record {
   tree = at q r;
   parts = λ l word text values. next (r.tree l text values) (λ x rest left. parts_by r l word x rest left (after word rest));
@@ -279,7 +279,7 @@ turn q r = record {
 }
 
 -- with this bound on how long and how deep a text is
-unfoldable pub read : Quoting → ℕ → Readers
+unfoldable pub read : Dialect → ℕ → Readers
 read q zero = nothing
 read q (suc k) = turn q (read q k)
 
@@ -295,7 +295,7 @@ ends_name [] = true
 ends_name (c ∷ cs) = not (is_plain_byte c) && not (c == 34) && not (c == 96)
 
 -- no text of the level goes on here
-unfoldable pub stops : Quoting → Level → List ℕ → Bool
+unfoldable pub stops : Dialect → Level → List ℕ → Bool
 stops q Operand rest = ends_name rest
 stops q Signed rest = ends_name rest
 stops q Multiplied rest = ends_name rest && is_none (after (codes " * ") rest)

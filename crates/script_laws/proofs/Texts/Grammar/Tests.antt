@@ -1,7 +1,7 @@
 -- Tests, their opposites, and texts of a level with a word between.
 use Rattle.std.proofs.Common.{◌≡◌, ℕ, suc, ◌+◌, ◌≤◌, ◌++◌, Bool, true, List, [], Some, codes, refl, ap, ◌∙◌, append_assoc, arith}
 use Rattle.base_core.specs.declared.value.Value.{Value}
-use Rattle.sql_text.specs.declared.names.Quoting.{Quoting}
+use Rattle.base_core.specs.declared.dialect.Dialect.{Dialect}
 use Rattle.sql_text.specs.Words.{null_word, in_word, empty_word, between_word}
 use Rattle.script_laws.specs.Texts.Grammar.Trees.{Test, Sql, test, null_test, in_list, between, opposite, all_of, any_of, Sqls, none, more}
 use Rattle.script_laws.specs.Texts.Grammar.Words.{test_word}
@@ -11,7 +11,7 @@ use Rattle.script_laws.proofs.Texts.Grammar.Finding.{after_self, test_found, nul
 use Rattle.script_laws.proofs.Texts.Grammar.Naming.{marks_begin, marks_read}
 use Rattle.script_laws.proofs.Texts.Grammar.Found.{Found, FoundParts, begins_wider, begins_on, begins_so, lacks_byte, made, one_deeper, rearranged}
 
-module _ (q : Quoting) where
+module _ (q : Dialect) where
   -- ---- 4
 
   pub tested_found : {a : List ℕ} {v : List Value} {x : Sql} → Found q Added a v x → Found q Tested a v x
@@ -91,7 +91,7 @@ module _ (q : Quoting) where
       made (begins_so _ 78 (codes "OT " ++ a) refl) f.bound
       (λ j g rest left s. ap (λ (o : Out Sql). next o (λ y past over. Some (opposite y, past, over))) (f.gives j g rest left (operand_stops q rest s)))
     where
-      operand_stops : (q : Quoting) (rest : List ℕ) → stops q Opposite rest ≡ true → stops q Operand rest ≡ true
+      operand_stops : (q : Dialect) (rest : List ℕ) → stops q Opposite rest ≡ true → stops q Operand rest ≡ true
       operand_stops q rest s =
           stops_tighter q Signed rest (stops_tighter q Multiplied rest (stops_tighter q Added rest (stops_tighter q Tested rest (stops_tighter q Opposite rest s))))
 

@@ -1,7 +1,7 @@
 -- Two readings of one text agree: what each part of a text is read as, and where it ends.
 use Rattle.std.proofs.Common.{◌≡◌, ℕ, ◌++◌, Bool, true, false, List, [], ◌∷◌, Option, Some, None, refl, sym, ap, subst, ◌∙◌, append_assoc, unwrap_or, codes}
 use Rattle.base_core.specs.declared.value.Value.{Value}
-use Rattle.sql_text.specs.declared.names.Quoting.{Quoting}
+use Rattle.base_core.specs.declared.dialect.Dialect.{Dialect}
 use Rattle.script_laws.specs.Texts.Grammar.Reads.{IsName, IsMark, AreMarks}
 use Rattle.script_laws.proofs.Texts.Grammar.Reader.{after, Out, ends_name, name_in, mark_in, marks_in}
 use Rattle.script_laws.proofs.Texts.Grammar.Finding.{after_self}
@@ -67,15 +67,15 @@ pub record SameName (n m : List ℕ) (rest past : List ℕ) : Type 0 where
   pub same : n ≡ m
   pub rests : rest ≡ past
 
-pub name_one : {q : Quoting} {a b n m : List ℕ} → IsName q a n → IsName q b m → (rest past : List ℕ) → ends_name rest ≡ true → ends_name past ≡ true → a ++ rest ≡ b ++ past → SameName n m rest past
+pub name_one : {q : Dialect} {a b n m : List ℕ} → IsName q a n → IsName q b m → (rest past : List ℕ) → ends_name rest ≡ true → ends_name past ≡ true → a ++ rest ≡ b ++ past → SameName n m rest past
 name_one {q} {a} {b} {n} {m} r s rest past e f texts =
     let pair : (n, rest) ≡ (m, past) = some_is (sym (name_read r rest e) ∙ (ap (name_in q) texts ∙ name_read s past f)) in
     record { same = ap (λ (p : List ℕ × List ℕ). p.0) pair; rests = ap (λ (p : List ℕ × List ℕ). p.1) pair }
 
-pub mark_one : {q : Quoting} {a b : List ℕ} → IsMark q a → IsMark q b → (rest past : List ℕ) → a ++ rest ≡ b ++ past → rest ≡ past
+pub mark_one : {q : Dialect} {a b : List ℕ} → IsMark q a → IsMark q b → (rest past : List ℕ) → a ++ rest ≡ b ++ past → rest ≡ past
 mark_one {q} r s rest past texts = some_is (sym (mark_read r rest) ∙ (ap (mark_in q) texts ∙ mark_read s past))
 
-pub marks_one : {q : Quoting} {a b : List ℕ} {v w : List Value} → AreMarks q a v → AreMarks q b w → (rest past : List ℕ) (left over : List Value) → after (codes ", ") rest ≡ None → after (codes ", ") past ≡ None
+pub marks_one : {q : Dialect} {a b : List ℕ} {v w : List Value} → AreMarks q a v → AreMarks q b w → (rest past : List ℕ) (left over : List Value) → after (codes ", ") rest ≡ None → after (codes ", ") past ≡ None
     → a ++ rest ≡ b ++ past → v ++ left ≡ w ++ over → Agree v w rest past left over
 marks_one {q} {a} {b} {v} {w} r s rest past left over e f texts values =
     agreed

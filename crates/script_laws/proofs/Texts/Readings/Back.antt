@@ -29,8 +29,8 @@ use Rattle.sql_semantics.specs.Kinds.{Scope, column_in}
 use Rattle.sql_semantics.specs.DistinctNames.{has_distinct_columns, has_distinct_names}
 use Rattle.sql_semantics.specs.Plain.{StandsIn, adds_name, are_distinct, fits, fits_level, name_of, names_apart, takes}
 use Rattle.sql_semantics.proofs.Equations.{fits_step, fits_rolled}
-use Rattle.sql_text.specs.declared.names.Quoting.{Quoting}
-use Rattle.sql_text.specs.declared.names.Quoting.TheVariants.{Sqlite, Postgresql, Mysql}
+use Rattle.base_core.specs.declared.dialect.Dialect.{Dialect}
+use Rattle.base_core.specs.declared.dialect.Dialect.TheVariants.{Sqlite, Postgresql, Mysql}
 use Rattle.sql_text.specs.Columns.{name_or_empty as named_as}
 use Rattle.sql_expressions.specs.Laid.{column_shown, source_shown}
 use Rattle.script_laws.specs.Texts.Grammar.Trees.{Test, Equal, NotEqual, Less, LessEqual, Greater, GreaterEqual, Like, Ilike, Distinct, Sign, Plus, Minus, Beside, Function, Count, Sum, Min, Max, Lower, Upper, Length, Coalesce, Concat, Source, Sql, column, mark, test, null_test, in_list, between, all_of, any_of, opposite, sum, product, negative, call, count_all, exists, Sqls, none, more}
@@ -156,7 +156,7 @@ others_told {schema} {scope} {e} {es} t = record {
 two : {A B C : Type 0} (f : A → B → C) {a c : A} {b d : B} → a ≡ c → b ≡ d → f a b ≡ f c d
 two {A} {B} {C} f {a} {c} {b} {d} e g = ap (λ (x : A). f x b) e ∙ ap (f c) g
 
-module _ (q : Quoting) (schema : Catalog) (named : has_distinct_names schema ≡ true) where
+module _ (q : Dialect) (schema : Catalog) (named : has_distinct_names schema ≡ true) where
   tables_distinct : are_distinct (map (λ (spec : TableSpec). spec.name) schema.tables) ≡ true
   tables_distinct = (and_parts (are_distinct (map (λ (spec : TableSpec). spec.name) schema.tables)) (list_all has_distinct_columns schema.tables) named).0
 
@@ -235,7 +235,7 @@ module _ (q : Quoting) (schema : Catalog) (named : has_distinct_names schema ≡
   function_back func.Length es = refl
   function_back func.Coalesce es = refl
 
-  two_back : (d : Quoting) (x y : Sql) (scope : List Origin) → back schema (concat_tree d x y) scope ≡ normal_level (Expr-F.Concat (back schema x scope) (back schema y scope))
+  two_back : (d : Dialect) (x y : Sql) (scope : List Origin) → back schema (concat_tree d x y) scope ≡ normal_level (Expr-F.Concat (back schema x scope) (back schema y scope))
   unfolding back backs
   two_back Sqlite x y scope = refl
   two_back Postgresql x y scope = refl
@@ -251,7 +251,7 @@ module _ (q : Quoting) (schema : Catalog) (named : has_distinct_names schema ≡
   liked_lowers n a b =
       two (like_by n (roll-Expr (Expr-F.Call func.Lower (a ∷ []))) (roll-Expr (Expr-F.Call func.Lower (b ∷ [])))) (lowers a) (lowers b) ∙ sym (expr.rolls-Ilike n a b)
 
-  ilike_back : (d : Quoting) (n : Bool) (x y : Sql) (scope : List Origin) → back schema (ilike_tree d n x y) scope ≡ normal_level (Expr-F.Ilike n (back schema x scope) (back schema y scope))
+  ilike_back : (d : Dialect) (n : Bool) (x y : Sql) (scope : List Origin) → back schema (ilike_tree d n x y) scope ≡ normal_level (Expr-F.Ilike n (back schema x scope) (back schema y scope))
   unfolding back backs
   ilike_back Sqlite n x y scope = liked_lowers n (back schema x scope) (back schema y scope)
   ilike_back Postgresql n x y scope = refl
@@ -262,7 +262,7 @@ module _ (q : Quoting) (schema : Catalog) (named : has_distinct_names schema ≡
   undistinct a b =
       ap negation_of (expr.rolls-Distinct true a b) ∙ (ap (negation_of_level (expr.Distinct true a b)) (expr.outs-Distinct true a b) ∙ sym (expr.rolls-Distinct false a b))
 
-  distinct_back : (d : Quoting) (n : Bool) (x y : Sql) (scope : List Origin) → back schema (distinct_tree d n x y) scope ≡ normal_level (Expr-F.Distinct n (back schema x scope) (back schema y scope))
+  distinct_back : (d : Dialect) (n : Bool) (x y : Sql) (scope : List Origin) → back schema (distinct_tree d n x y) scope ≡ normal_level (Expr-F.Distinct n (back schema x scope) (back schema y scope))
   unfolding back
   distinct_back Sqlite n x y scope = refl
   distinct_back Postgresql n x y scope = refl
@@ -370,7 +370,7 @@ module _ (q : Quoting) (schema : Catalog) (named : has_distinct_names schema ≡
   from_mark v sources = refl
 
 pub texts_tell_expressions : TextsTellExpressions
-texts_tell_expressions quoting schema sources base other_base e other named distinct h g texts values =
-    sym (from_tree quoting schema named sources e distinct h)
-    ∙ (ap (λ (x : Sql). back schema x sources) (texts_tell_trees quoting schema schema sources sources base other_base e other h g texts values)
-    ∙ from_tree quoting schema named sources other distinct g)
+texts_tell_expressions dialect schema sources base other_base e other named distinct h g texts values =
+    sym (from_tree dialect schema named sources e distinct h)
+    ∙ (ap (λ (x : Sql). back schema x sources) (texts_tell_trees dialect schema schema sources sources base other_base e other h g texts values)
+    ∙ from_tree dialect schema named sources other distinct g)

@@ -1,8 +1,8 @@
 -- A text with its values is one bulk statement at most.
 use Rattle.std.proofs.Common.{◌≡◌, ℕ, ◌++◌, true, List, [], Option, codes, refl, sym, ap, ◌∙◌, append-nil}
 use Rattle.base_core.specs.declared.value.Value.{Value}
-use Rattle.sql_text.specs.declared.names.Quoting.{Quoting}
-use Rattle.sql_text.specs.declared.names.Quoting.TheVariants.{Sqlite, Postgresql, Mysql}
+use Rattle.base_core.specs.declared.dialect.Dialect.{Dialect}
+use Rattle.base_core.specs.declared.dialect.Dialect.TheVariants.{Sqlite, Postgresql, Mysql}
 use Rattle.script_laws.specs.Texts.Grammar.Trees.{Sql}
 use Rattle.script_laws.specs.Texts.Grammar.Reads.{Reads, Either}
 use Rattle.script_laws.proofs.Texts.Grammar.Reader.{ends_name}
@@ -19,30 +19,30 @@ use Rattle.script_laws.proofs.Texts.Readings.Trees.{EndsTree, tree_one, where_en
 
 -- ---- cells
 
-set_begins : {q : Quoting} {a : List ℕ} {v : List Value} {x : List ℕ × Sql} → Set q a v x → Begins starts_name a
+set_begins : {q : Dialect} {a : List ℕ} {v : List Value} {x : List ℕ × Sql} → Set q a v x → Begins starts_name a
 set_begins (set {b = b} n r) = begins_on (name_begins n) (codes "=" ++ b)
 
-set_agree : {q : Quoting} {a b : List ℕ} {v w : List Value} {x y : List ℕ × Sql} → Set q a v x → Set q b w y → Agreeing (EndsTree q) a b v w x y
+set_agree : {q : Dialect} {a b : List ℕ} {v w : List Value} {x y : List ℕ × Sql} → Set q a v x → Set q b w y → Agreeing (EndsTree q) a b v w x y
 set_agree {q} (set {a = a} {b = c} n r) (set {a = b} {b = d} m s) rest past left over e f texts values =
     let names = name_one n m (codes "=" ++ (c ++ rest)) (codes "=" ++ (d ++ past)) refl refl (sym (one_text a (codes "=") c rest) ∙ (texts ∙ one_text b (codes "=") d past)) in
     let trees = (tree_one q).agree r s rest past left over e f (cut_word (codes "=") names.rests) values in
     record { same = pair_same names.same trees.same; rests = trees.rests; lefts = trees.lefts }
 
-sets_one : (q : Quoting) → IsOne (Items (Set q) (codes ", ")) (EndsItems starts_name (codes ", ") (EndsTree q))
+sets_one : (q : Dialect) → IsOne (Items (Set q) (codes ", ")) (EndsItems starts_name (codes ", ") (EndsTree q))
 sets_one q = items_one (Set q) starts_name (EndsTree q) (record { begins = set_begins; one = record { agree = set_agree } }) (codes ", ") (either_comma q)
 
 -- ---- filters
 
-filter_ends : (q : Quoting) {a : List ℕ} {v : List Value} {x : Option Sql} → Clause (Reads q Either) (codes " WHERE ") a v x → EndsItems starts_name (codes ", ") (EndsTree q) a
+filter_ends : (q : Dialect) {a : List ℕ} {v : List Value} {x : Option Sql} → Clause (Reads q Either) (codes " WHERE ") a v x → EndsItems starts_name (codes ", ") (EndsTree q) a
 filter_ends q no_clause = record { ends = ended q Either; no_word = refl; no_start = tt }
 filter_ends q (clause {a = a} r) = record { ends = where_ends q a; no_word = refl; no_start = refl }
 
-filter_ends_name : {q : Quoting} {a : List ℕ} {v : List Value} {x : Option Sql} → Clause (Reads q Either) (codes " WHERE ") a v x → ends_name a ≡ true
+filter_ends_name : {q : Dialect} {a : List ℕ} {v : List Value} {x : Option Sql} → Clause (Reads q Either) (codes " WHERE ") a v x → ends_name a ≡ true
 filter_ends_name no_clause = refl
 filter_ends_name (clause r) = refl
 
 -- a filter that ends a text
-filter_last : (q : Quoting) {a b : List ℕ} {v w : List Value} {x y : Option Sql} → Clause (Reads q Either) (codes " WHERE ") a v x → Clause (Reads q Either) (codes " WHERE ") b w y → a ≡ b → v ≡ w → x ≡ y
+filter_last : (q : Dialect) {a b : List ℕ} {v w : List Value} {x y : Option Sql} → Clause (Reads q Either) (codes " WHERE ") a v x → Clause (Reads q Either) (codes " WHERE ") b w y → a ≡ b → v ≡ w → x ≡ y
 filter_last q r s texts values =
     let ends : EndsClause (codes " WHERE ") (EndsTree q) [] = record { ends = ended q Either; no_word = refl } in
     ((clause_one (Reads q Either) (EndsTree q) (tree_one q) (codes " WHERE ")).agree r s [] [] [] [] ends ends (ap (λ (text : List ℕ). text ++ []) texts) (ap (λ (u : List Value). u ++ []) values)).same
@@ -58,12 +58,12 @@ update_same {t} {u} {c} {d} {x} {y} e f g = ap (λ (n : List ℕ). update n c x)
 delete_same : {t u : List ℕ} {x y : Option Sql} → t ≡ u → x ≡ y → delete t x ≡ delete u y
 delete_same {t} {u} {x} {y} e f = ap (λ (n : List ℕ). delete n x) e ∙ ap (delete u) f
 
-default_ends_name : (q : Quoting) → ends_name (default_word q) ≡ true
+default_ends_name : (q : Dialect) → ends_name (default_word q) ≡ true
 default_ends_name Sqlite = refl
 default_ends_name Postgresql = refl
 default_ends_name Mysql = refl
 
-statements_agree : (q : Quoting) {a b : List ℕ} {v w : List Value} {x y : BulkForm} → ReadsBulk q a v x → ReadsBulk q b w y → a ≡ b → v ≡ w → x ≡ y
+statements_agree : (q : Dialect) {a b : List ℕ} {v w : List Value} {x y : BulkForm} → ReadsBulk q a v x → ReadsBulk q b w y → a ≡ b → v ≡ w → x ≡ y
 statements_agree q (insert_nothing n) (insert_nothing m) texts values =
     insert_same (name_one n m (default_word q) (default_word q) (default_ends_name q) (default_ends_name q) (cut_word (codes "INSERT INTO ") texts)).same refl refl
 statements_agree q (insert_nothing n) (insert_row {b = d} {c = e} m columns marks) texts values =
@@ -96,7 +96,7 @@ statements_agree q (delete_rows {c = c} n filter) (delete_rows {c = d} m last) t
     delete_same names.same (filter_last q filter last names.rests values)
 
 pub one_bulk_form : IsOneBulkForm
-one_bulk_form quoting text values x y r s = statements_agree quoting r s refl refl
+one_bulk_form dialect text values x y r s = statements_agree dialect r s refl refl
 
 pub bulk_texts_tell_forms : BulkTextsTellForms
-bulk_texts_tell_forms quoting schema other_schema it other h g texts values = statements_agree quoting (bulks_are_read quoting schema it h) (bulks_are_read quoting other_schema other g) texts values
+bulk_texts_tell_forms dialect schema other_schema it other h g texts values = statements_agree dialect (bulks_are_read dialect schema it h) (bulks_are_read dialect other_schema other g) texts values

@@ -1,7 +1,7 @@
 -- A text with its values is one statement on rows at most.
 use Rattle.std.proofs.Common.{◌≡◌, ℕ, ◌++◌, ◌==◌, Bool, true, List, [], ◌∷◌, codes, refl, sym, ap, ◌∙◌, append_assoc}
 use Rattle.base_core.specs.declared.value.Value.{Value}
-use Rattle.sql_text.specs.declared.names.Quoting.{Quoting}
+use Rattle.base_core.specs.declared.dialect.Dialect.{Dialect}
 use Rattle.script_laws.proofs.Texts.Grammar.Reader.{ends_name}
 use Rattle.script_laws.proofs.Texts.Grammar.Naming.{Begins, starts_name, name_begins}
 use Rattle.script_laws.proofs.Texts.Grammar.Found.{begins_on, begins_so}
@@ -17,35 +17,35 @@ use Rattle.script_laws.proofs.Texts.Readings.Names.{pair_same, triple_same, firs
 abbrev opens : ℕ → Bool
 opens c = c == 40
 
-row_begins : {q : Quoting} {a : List ℕ} {v x : List Value} → Row q a v x → Begins opens a
+row_begins : {q : Dialect} {a : List ℕ} {v x : List Value} → Row q a v x → Begins opens a
 row_begins (row {a = a} ms) = begins_so opens 40 (a ++ codes ")") refl
 
-row_agree : {q : Quoting} {a b : List ℕ} {v w : List Value} {x y : List Value} → Row q a v x → Row q b w y → Agreeing Anywhere a b v w x y
+row_agree : {q : Dialect} {a b : List ℕ} {v w : List Value} {x y : List Value} → Row q a v x → Row q b w y → Agreeing Anywhere a b v w x y
 row_agree (row {a = a} r) (row {a = b} s) rest past left over e f texts values =
     let inner = cut_word (codes "(") {rest = (a ++ codes ")") ++ rest} {past = (b ++ codes ")") ++ past} texts in
     let it = marks_one r s (codes ")" ++ rest) (codes ")" ++ past) left over refl refl (sym (append_assoc a (codes ")") rest) ∙ (inner ∙ append_assoc b (codes ")") past)) values in
     record { same = it.same; rests = cut_word (codes ")") it.rests; lefts = it.lefts }
 
-rows_one : (q : Quoting) → IsOne (Items (Row q) (codes ", ")) (EndsItems opens (codes ", ") Anywhere)
+rows_one : (q : Dialect) → IsOne (Items (Row q) (codes ", ")) (EndsItems opens (codes ", ") Anywhere)
 rows_one q = items_one (Row q) opens Anywhere (record { begins = row_begins; one = record { agree = row_agree } }) (codes ", ") (λ text. tt)
 
-cell_begins : {q : Quoting} {a : List ℕ} {v : List Value} {x : List ℕ × Value} → Cell q a v x → Begins starts_name a
+cell_begins : {q : Dialect} {a : List ℕ} {v : List Value} {x : List ℕ × Value} → Cell q a v x → Begins starts_name a
 cell_begins (cell {m = m} x n k) = begins_on (name_begins n) (codes "=" ++ m)
 
-cell_agree : {q : Quoting} {a b : List ℕ} {v w : List Value} {x y : List ℕ × Value} → Cell q a v x → Cell q b w y → Agreeing Anywhere a b v w x y
+cell_agree : {q : Dialect} {a b : List ℕ} {v w : List Value} {x y : List ℕ × Value} → Cell q a v x → Cell q b w y → Agreeing Anywhere a b v w x y
 cell_agree (cell {a = a} {m = m} x n r) (cell {a = b} {m = k} y o s) rest past left over e f texts values =
     let names = name_one n o (codes "=" ++ (m ++ rest)) (codes "=" ++ (k ++ past)) refl refl (sym (one_text a (codes "=") m rest) ∙ (texts ∙ one_text b (codes "=") k past)) in
     record { same = pair_same names.same (first_same values); rests = mark_one r s rest past (cut_word (codes "=") names.rests); lefts = others_same values }
 
-cells_one : (q : Quoting) → IsOne (Items (Cell q) (codes ", ")) (EndsItems starts_name (codes ", ") Anywhere)
+cells_one : (q : Dialect) → IsOne (Items (Cell q) (codes ", ")) (EndsItems starts_name (codes ", ") Anywhere)
 cells_one q = items_one (Cell q) starts_name Anywhere (record { begins = cell_begins; one = record { agree = cell_agree } }) (codes ", ") (λ text. tt)
 
 -- ---- keys
 
-key_begins : {q : Quoting} {a : List ℕ} {v : List Value} {x : List ℕ × List ℕ × Value} → KeyCell q a v x → Begins starts_name a
+key_begins : {q : Dialect} {a : List ℕ} {v : List Value} {x : List ℕ × List ℕ × Value} → KeyCell q a v x → Begins starts_name a
 key_begins (key_cell {b = b} {m = m} x n o k) = begins_on (name_begins n) (codes "." ++ (b ++ (codes " = " ++ m)))
 
-key_agree : {q : Quoting} {a b : List ℕ} {v w : List Value} {x y : List ℕ × List ℕ × Value} → KeyCell q a v x → KeyCell q b w y → Agreeing Anywhere a b v w x y
+key_agree : {q : Dialect} {a b : List ℕ} {v w : List Value} {x y : List ℕ × List ℕ × Value} → KeyCell q a v x → KeyCell q b w y → Agreeing Anywhere a b v w x y
 key_agree (key_cell {a = a} {b = c} {m = m} x t n r) (key_cell {a = b} {b = d} {m = k} y u o s) rest past left over e f texts values =
     let tables = name_one t u (codes "." ++ ((c ++ (codes " = " ++ m)) ++ rest)) (codes "." ++ ((d ++ (codes " = " ++ k)) ++ past)) refl refl
     (sym (one_text a (codes ".") (c ++ (codes " = " ++ m)) rest) ∙ (texts ∙ one_text b (codes ".") (d ++ (codes " = " ++ k)) past)) in
@@ -53,38 +53,38 @@ key_agree (key_cell {a = a} {b = c} {m = m} x t n r) (key_cell {a = b} {b = d} {
     (sym (one_text c (codes " = ") m rest) ∙ (cut_word (codes ".") tables.rests ∙ one_text d (codes " = ") k past)) in
     record { same = triple_same tables.same names.same (first_same values); rests = mark_one r s rest past (cut_word (codes " = ") names.rests); lefts = others_same values }
 
-keys_one : (q : Quoting) → IsOne (Series (KeyCell q) (codes " WHERE ") (codes " AND ")) (EndsClause (codes " WHERE ") (EndsItems starts_name (codes " AND ") Anywhere))
+keys_one : (q : Dialect) → IsOne (Series (KeyCell q) (codes " WHERE ") (codes " AND ")) (EndsClause (codes " WHERE ") (EndsItems starts_name (codes " AND ") Anywhere))
 keys_one q =
     series_one (KeyCell q) (codes " WHERE ") (codes " AND ") (EndsItems starts_name (codes " AND ") Anywhere)
     (items_one (KeyCell q) starts_name Anywhere (record { begins = key_begins; one = record { agree = key_agree } }) (codes " AND ") (λ text. tt))
 
 -- a key that ends a text
-pub keys_last : {q : Quoting} {a b : List ℕ} {v w : List Value} {x y : List (List ℕ × List ℕ × Value)} → Series (KeyCell q) (codes " WHERE ") (codes " AND ") a v x
+pub keys_last : {q : Dialect} {a b : List ℕ} {v w : List Value} {x y : List (List ℕ × List ℕ × Value)} → Series (KeyCell q) (codes " WHERE ") (codes " AND ") a v x
     → Series (KeyCell q) (codes " WHERE ") (codes " AND ") b w y → a ≡ b → v ≡ w → x ≡ y
 keys_last {q} r s texts values =
     let ends : EndsClause (codes " WHERE ") (EndsItems starts_name (codes " AND ") Anywhere) [] = record { ends = record { ends = tt; no_word = refl; no_start = tt }; no_word = refl } in
     ((keys_one q).agree r s [] [] [] [] ends ends (ap (λ (text : List ℕ). text ++ []) texts) (ap (λ (u : List Value). u ++ []) values)).same
 
 -- a key or nothing ends the cells
-key_ends : {q : Quoting} {a : List ℕ} {v : List Value} {x : List (List ℕ × List ℕ × Value)} → Series (KeyCell q) (codes " WHERE ") (codes " AND ") a v x → EndsItems starts_name (codes ", ") Anywhere a
+key_ends : {q : Dialect} {a : List ℕ} {v : List Value} {x : List (List ℕ × List ℕ × Value)} → Series (KeyCell q) (codes " WHERE ") (codes " AND ") a v x → EndsItems starts_name (codes ", ") Anywhere a
 key_ends no_series = record { ends = tt; no_word = refl; no_start = tt }
 key_ends (series r) = record { ends = tt; no_word = refl; no_start = refl }
 
-key_ends_name : {q : Quoting} {a : List ℕ} {v : List Value} {x : List (List ℕ × List ℕ × Value)} → Series (KeyCell q) (codes " WHERE ") (codes " AND ") a v x → ends_name a ≡ true
+key_ends_name : {q : Dialect} {a : List ℕ} {v : List Value} {x : List (List ℕ × List ℕ × Value)} → Series (KeyCell q) (codes " WHERE ") (codes " AND ") a v x → ends_name a ≡ true
 key_ends_name no_series = refl
 key_ends_name (series r) = refl
 
 -- ---- what is told
 
-told_ends_name : {q : Quoting} {a : List ℕ} {x : List (List ℕ × List ℕ)} → Returned q a x → ends_name a ≡ true
+told_ends_name : {q : Dialect} {a : List ℕ} {x : List (List ℕ × List ℕ)} → Returned q a x → ends_name a ≡ true
 told_ends_name none_returned = refl
 told_ends_name (returned t n r) = refl
 
-told_ends : {q : Quoting} {a : List ℕ} {x : List (List ℕ × List ℕ)} → Returned q a x → EndsItems opens (codes ", ") Anywhere a
+told_ends : {q : Dialect} {a : List ℕ} {x : List (List ℕ × List ℕ)} → Returned q a x → EndsItems opens (codes ", ") Anywhere a
 told_ends none_returned = record { ends = tt; no_word = refl; no_start = tt }
 told_ends (returned t n r) = record { ends = tt; no_word = refl; no_start = refl }
 
-told_one : {q : Quoting} {a b : List ℕ} {x y : List (List ℕ × List ℕ)} → Returned q a x → Returned q b y → a ≡ b → x ≡ y
+told_one : {q : Dialect} {a b : List ℕ} {x y : List (List ℕ × List ℕ)} → Returned q a x → Returned q b y → a ≡ b → x ≡ y
 told_one none_returned none_returned e = refl
 told_one none_returned (returned u o s) e = lacking (codes " RETURNING ") _ refl e
 told_one (returned t n r) none_returned e = lacking (codes " RETURNING ") _ refl (sym e)
@@ -111,7 +111,7 @@ change_same {t} {u} {c} {d} {x} {y} e f g = ap (λ (n : List ℕ). change n c x)
 remove_same : {t u : List ℕ} {x y : List (List ℕ × List ℕ × Value)} → t ≡ u → x ≡ y → remove t x ≡ remove u y
 remove_same {t} {u} {x} {y} e f = ap (λ (n : List ℕ). remove n x) e ∙ ap (remove u) f
 
-statements_agree : (q : Quoting) {a b : List ℕ} {v w : List Value} {x y : RowForm} → ReadsRow q a v x → ReadsRow q b w y → a ≡ b → v ≡ w → x ≡ y
+statements_agree : (q : Dialect) {a b : List ℕ} {v w : List Value} {x y : RowForm} → ReadsRow q a v x → ReadsRow q b w y → a ≡ b → v ≡ w → x ≡ y
 statements_agree q (fill_row {a = a} {b = b} n r) (fill_row {a = c} {b = d} m s) texts values =
     let names = name_one n m (default_word q ++ b) (default_word q ++ d) (default_ends q b) (default_ends q d) (cut_word (codes "INSERT INTO ") texts) in
     fill_same names.same (told_one r s (cut_word (default_word q) names.rests))
@@ -146,7 +146,7 @@ statements_agree q (remove_row {c = c} n key) (remove_row {c = d} m last) texts 
     remove_same names.same (keys_last key last names.rests values)
 
 pub one_row_form : IsOneRowForm
-one_row_form quoting text values x y r s = statements_agree quoting r s refl refl
+one_row_form dialect text values x y r s = statements_agree dialect r s refl refl
 
 pub row_texts_tell_forms : RowTextsTellForms
-row_texts_tell_forms quoting schema other_schema it other h g texts values = statements_agree quoting (rows_are_read quoting schema it h) (rows_are_read quoting other_schema other g) texts values
+row_texts_tell_forms dialect schema other_schema it other h g texts values = statements_agree dialect (rows_are_read dialect schema it h) (rows_are_read dialect other_schema other g) texts values

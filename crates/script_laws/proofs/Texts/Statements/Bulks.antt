@@ -19,7 +19,7 @@ use Rattle.sql_semantics.specs.Kinds.{column_in}
 use Rattle.sql_semantics.specs.Plain.{IfSet, IsFilter, IsWritten, StandsIn, alone, are_for, fits, has_kind}
 use Rattle.sql_semantics.specs.PlainStatement.{IsFittingBulk}
 use Rattle.sql_semantics.proofs.Equations.{fits_rolled}
-use Rattle.sql_text.specs.declared.names.Quoting.{Quoting}
+use Rattle.base_core.specs.declared.dialect.Dialect.{Dialect}
 use Rattle.sql_text.specs.Columns.{column_name}
 use Rattle.script_laws.specs.Texts.Grammar.Trees.{Source, Sql}
 use Rattle.script_laws.specs.Texts.Expressions.Tree.{tree}
@@ -68,7 +68,7 @@ bulk_back schema (insert table columns values) = insert_back schema (table_back 
 bulk_back schema (update table cells filter) = update_back schema (table_back schema table) cells filter
 bulk_back schema (delete table filter) = delete_back schema (table_back schema table) filter
 
-module _ (q : Quoting) (schema : Catalog) (named : has_distinct_names schema ≡ true) where
+module _ (q : Dialect) (schema : Catalog) (named : has_distinct_names schema ≡ true) where
   pub table_told : (table : TableId) → IsTable schema table → table_back schema (spec_of schema table).name ≡ table
   table_told table there = ap (λ (o : Origin). o.table) (origin_told q schema named (record { table = table; alias = None }) (lt-ltb table.0 (length schema.tables) there))
 
@@ -129,6 +129,6 @@ module _ (q : Quoting) (schema : Catalog) (named : has_distinct_names schema ≡
       ap (λ (t : TableId). delete_back schema t (option_map (λ (e : Expr). tree q schema e (alone table)) filter)) (table_told table fit.0) ∙ ap (bulk.Delete table) (filter_told table filter fit.1)
 
 pub one_bulk : IsOneBulk
-one_bulk quoting schema text values it other named fit other_fit reads other_reads =
-    sym (bulk_told quoting schema named it fit)
-    ∙ (ap (bulk_back schema) (one_bulk_form quoting text values (bulk_form quoting schema it) (bulk_form quoting schema other) reads other_reads) ∙ bulk_told quoting schema named other other_fit)
+one_bulk dialect schema text values it other named fit other_fit reads other_reads =
+    sym (bulk_told dialect schema named it fit)
+    ∙ (ap (bulk_back schema) (one_bulk_form dialect text values (bulk_form dialect schema it) (bulk_form dialect schema other) reads other_reads) ∙ bulk_told dialect schema named other other_fit)

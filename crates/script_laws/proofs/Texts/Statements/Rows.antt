@@ -17,7 +17,7 @@ use Rattle.schema_core.specs.Apply.{wants_key}
 use Rattle.schema_core.specs.Catalog.{Catalog, IsTable, has_generated_key, is_free_integer, no_table, spec_of}
 use Rattle.schema_core.specs.Tables.{fits, has_null, is_null, key_cells, key_of}
 use Rattle.schema_core.specs.WellFormed.{AreNewRows, IsWellFormed, are_cells, is_row, may_hold}
-use Rattle.sql_text.specs.declared.names.Quoting.{Quoting}
+use Rattle.base_core.specs.declared.dialect.Dialect.{Dialect}
 use Rattle.sql_text.specs.Columns.{column_name}
 use Rattle.script_laws.specs.Texts.Forms.Forms.{RowForm, fill, add, change, remove}
 use Rattle.script_laws.specs.Texts.Forms.Form.{columns_with_values, given_cells, given_values, is_drawn, key_values, row_form, returned_columns}
@@ -288,7 +288,7 @@ all_within p [] i d h l = absurd (omega arith)
 all_within p (x ∷ xs) zero d h l = (and_parts (p x) (list_all p xs) h).0
 all_within p (x ∷ xs) (suc i) d h l = all_within p xs i d (and_parts (p x) (list_all p xs) h).1 (omega arith)
 
-module _ (q : Quoting) (schema : Catalog) (named : has_distinct_names schema ≡ true) (full : has_columns schema ≡ true) where
+module _ (q : Dialect) (schema : Catalog) (named : has_distinct_names schema ≡ true) (full : has_columns schema ≡ true) where
   cells_told : (table : TableId) (cells : List (ColumnNo × Value)) → AllByRecursion (λ c. c.0.0 < length (spec_of schema table).columns) cells
       → map (λ (c : List ℕ × Value). (column_back schema table c.0, c.1)) (map (λ (c : ColumnNo × Value). (column_name schema table c.0, c.1)) cells) ≡ cells
   cells_told table cells below =
@@ -323,6 +323,6 @@ module _ (q : Quoting) (schema : Catalog) (named : has_distinct_names schema ≡
       ∙ ap (row.Delete table) (keys_told (spec_of schema table).name (spec_of schema table).columns key formed.1)
 
 pub one_row : IsOneRow
-one_row quoting schema text values it other named full formed other_formed reads other_reads =
-    sym (row_told quoting schema named full it formed)
-    ∙ (ap (row_back schema) (one_row_form quoting text values (row_form quoting schema it) (row_form quoting schema other) reads other_reads) ∙ row_told quoting schema named full other other_formed)
+one_row dialect schema text values it other named full formed other_formed reads other_reads =
+    sym (row_told dialect schema named full it formed)
+    ∙ (ap (row_back schema) (one_row_form dialect text values (row_form dialect schema it) (row_form dialect schema other) reads other_reads) ∙ row_told dialect schema named full other other_formed)

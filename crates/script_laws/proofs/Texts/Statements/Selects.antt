@@ -12,7 +12,7 @@ use Rattle.expr_types.specs.declared.expr.Origin.{Origin}
 use Rattle.expr_types.specs.declared.select.Joined.{Joined}
 use Rattle.expr_types.specs.declared.select.Select.{Select}
 use Rattle.sql_semantics.specs.Plain.{AreJoined, IsCondition, IsFilter, IsPlainSelect, StandsIn, are_distinct, is_declared, name_of, sources_of}
-use Rattle.sql_text.specs.declared.names.Quoting.{Quoting}
+use Rattle.base_core.specs.declared.dialect.Dialect.{Dialect}
 use Rattle.script_laws.specs.Texts.Grammar.Trees.{Sql}
 use Rattle.script_laws.specs.Texts.Expressions.Tree.{tree}
 use Rattle.script_laws.specs.Texts.Forms.Forms.{JoinForm, SelectForm}
@@ -66,7 +66,7 @@ number_told : (o : Option ℕ) → option_map number_back (option_map number o) 
 number_told None = refl
 number_told (Some n) = refl
 
-module _ (q : Quoting) (schema : Catalog) (named : has_distinct_names schema ≡ true) where
+module _ (q : Dialect) (schema : Catalog) (named : has_distinct_names schema ≡ true) where
   -- ---- sources
 
   origins_told : (before : List Origin) (joins : List Joined) → list_all (is_declared schema) (map (λ join. join.origin) joins) ≡ true
@@ -117,6 +117,6 @@ module _ (q : Quoting) (schema : Catalog) (named : has_distinct_names schema ≡
       (number_told s.offset)
 
 pub one_select : IsOneSelect
-one_select quoting schema text values it other named plain other_plain reads other_reads =
-    sym (select_told quoting schema named it plain)
-    ∙ (ap (select_back schema) (one_select_form quoting text values (select_form quoting schema it) (select_form quoting schema other) reads other_reads) ∙ select_told quoting schema named other other_plain)
+one_select dialect schema text values it other named plain other_plain reads other_reads =
+    sym (select_told dialect schema named it plain)
+    ∙ (ap (select_back schema) (one_select_form dialect text values (select_form dialect schema it) (select_form dialect schema other) reads other_reads) ∙ select_told dialect schema named other other_plain)

@@ -27,25 +27,25 @@ use Rattle.script_laws.proofs.Texts.Statements.Rows.{one_row}
 use Rattle.script_laws.proofs.Texts.Statements.Declared.{declared_names_are_distinct}
 
 pub one_statement : (schema : Catalog) → IsDeclared schema.tables schema.resolved → IsOneStatement schema
-one_statement schema declared quoting text values (of_select it) (of_select other) plain other_plain one reads other_reads =
-    ap of_select (one_select quoting schema text values it other (declared_names_are_distinct schema declared).0 plain other_plain reads other_reads)
-one_statement schema declared quoting text values (of_select it) (of_bulk other) plain other_plain one reads other_reads = absurd one
-one_statement schema declared quoting text values (of_select it) (of_row other) plain other_plain one reads other_reads = absurd one
-one_statement schema declared quoting text values (of_bulk it) (of_select other) plain other_plain one reads other_reads = absurd one
-one_statement schema declared quoting text values (of_bulk it) (of_bulk other) plain other_plain one reads other_reads =
-    ap of_bulk (one_bulk quoting schema text values it other (declared_names_are_distinct schema declared).0 plain other_plain reads other_reads)
-one_statement schema declared quoting text values (of_bulk it) (of_row other) plain other_plain one reads other_reads = absurd one
-one_statement schema declared quoting text values (of_row it) (of_select other) plain other_plain one reads other_reads = absurd one
-one_statement schema declared quoting text values (of_row it) (of_bulk other) plain other_plain one reads other_reads = absurd one
-one_statement schema declared quoting text values (of_row it) (of_row other) plain other_plain one reads other_reads =
+one_statement schema declared dialect text values (of_select it) (of_select other) plain other_plain one reads other_reads =
+    ap of_select (one_select dialect schema text values it other (declared_names_are_distinct schema declared).0 plain other_plain reads other_reads)
+one_statement schema declared dialect text values (of_select it) (of_bulk other) plain other_plain one reads other_reads = absurd one
+one_statement schema declared dialect text values (of_select it) (of_row other) plain other_plain one reads other_reads = absurd one
+one_statement schema declared dialect text values (of_bulk it) (of_select other) plain other_plain one reads other_reads = absurd one
+one_statement schema declared dialect text values (of_bulk it) (of_bulk other) plain other_plain one reads other_reads =
+    ap of_bulk (one_bulk dialect schema text values it other (declared_names_are_distinct schema declared).0 plain other_plain reads other_reads)
+one_statement schema declared dialect text values (of_bulk it) (of_row other) plain other_plain one reads other_reads = absurd one
+one_statement schema declared dialect text values (of_row it) (of_select other) plain other_plain one reads other_reads = absurd one
+one_statement schema declared dialect text values (of_row it) (of_bulk other) plain other_plain one reads other_reads = absurd one
+one_statement schema declared dialect text values (of_row it) (of_row other) plain other_plain one reads other_reads =
     let names = declared_names_are_distinct schema declared in
-    ap of_row (one_row quoting schema text values it other names.0 names.1 plain other_plain reads other_reads)
+    ap of_row (one_row dialect schema text values it other names.0 names.1 plain other_plain reads other_reads)
 
 pub texts_tell_statements : (schema : Catalog) → IsDeclared schema.tables schema.resolved → TextsTellStatements schema
-texts_tell_statements schema declared quoting it other plain other_plain one texts values =
-    one_statement schema declared quoting (text_of quoting schema it).text (text_of quoting schema it).values it other plain other_plain one (statements_are_read quoting schema it plain)
-    (subst (λ (text : List ℕ). ReadsStatement quoting schema text (text_of quoting schema it).values other) (sym texts)
-    (subst (λ (vs : List Value). ReadsStatement quoting schema (text_of quoting schema other).text vs other) (sym values) (statements_are_read quoting schema other other_plain)))
+texts_tell_statements schema declared dialect it other plain other_plain one texts values =
+    one_statement schema declared dialect (text_of dialect schema it).text (text_of dialect schema it).values it other plain other_plain one (statements_are_read dialect schema it plain)
+    (subst (λ (text : List ℕ). ReadsStatement dialect schema text (text_of dialect schema it).values other) (sym texts)
+    (subst (λ (vs : List Value). ReadsStatement dialect schema (text_of dialect schema other).text vs other) (sym values) (statements_are_read dialect schema other other_plain)))
 
 -- ---- what a keeper may be sent
 

@@ -12,8 +12,8 @@ use Rattle.expr_types.specs.declared.expr.Expr.TheFolds.{map-Expr, fold-roll-Exp
 use Rattle.expr_types.specs.declared.expr.Origin.{Origin}
 use Rattle.expr_types.proofs.Folds.{bare as known, by_levels}
 use Rattle.sql_semantics.specs.Plain.{name_or}
-use Rattle.sql_text.specs.declared.names.Quoting.{Quoting}
-use Rattle.sql_text.specs.declared.names.Quoting.TheVariants.{Sqlite, Postgresql, Mysql}
+use Rattle.base_core.specs.declared.dialect.Dialect.{Dialect}
+use Rattle.base_core.specs.declared.dialect.Dialect.TheVariants.{Sqlite, Postgresql, Mysql}
 use Rattle.sql_text.specs.Words.{null_word, like_word, ilike_word, in_word, between_word, distinct_word, sqlite_distinct_word}
 use Rattle.sql_text.specs.Written.{Piece, words, value, with_leading_separators, with_separators}
 use Rattle.sql_expressions.specs.Laid as l
@@ -28,7 +28,7 @@ pub record Like (a b : Laid) : Type 0 where
   pub pieces : (scope : List Origin) (base : List ℕ) → Alike (a.pieces scope base) (b.pieces scope base)
 
 -- an expression and what it is without its literals
-abbrev pub Same : Quoting → Catalog → Expr → Type 0
+abbrev pub Same : Dialect → Catalog → Expr → Type 0
 Same q schema e = Like (laid q schema e) (laid q schema (without e))
 
 -- ---- parts of forms
@@ -58,7 +58,7 @@ two_alike left right word {a} {b} {c} {d} s r scope =
     (under_alike left s scope (beside scope c) (beside scope d) (beside_is r scope))
     (behind (words word) (under right c scope (beside scope a)) (under right d scope (beside scope b)) (under_alike right r scope (beside scope a) (beside scope b) (beside_is s scope)))
 
-module _ (q : Quoting) (schema : Catalog) where
+module _ (q : Dialect) (schema : Catalog) where
   abbrev Known : Type 0
   Known = (e : Expr) × Same q schema e
 
@@ -113,7 +113,7 @@ in_level_is (v ∷ vs) = refl
 
 -- ---- one level
 
-abbrev Pairs : (q : Quoting) → Laid → Laid → Laid → Laid → Type 0
+abbrev Pairs : (q : Dialect) → Laid → Laid → Laid → Laid → Type 0
 Pairs q a b c d = (scope : List Origin) → Alike (l.concat_pieces q a c scope) (l.concat_pieces q b d scope)
 
 arith_alike : (op : ArithOp) {a b c d : Laid} → Like a b → Like c d → (scope : List Origin) → Alike (l.arith_pieces op a c scope) (l.arith_pieces op b d scope)
@@ -121,19 +121,19 @@ arith_alike Add s r scope = two_alike 5 6 (codes " + ") s r scope
 arith_alike Sub s r scope = two_alike 5 6 (codes " - ") s r scope
 arith_alike Mul s r scope = two_alike 6 7 (codes " * ") s r scope
 
-concat_alike : (q : Quoting) {a b c d : Laid} → Like a b → Like c d → (scope : List Origin) → Alike (l.concat_pieces q a c scope) (l.concat_pieces q b d scope)
+concat_alike : (q : Dialect) {a b c d : Laid} → Like a b → Like c d → (scope : List Origin) → Alike (l.concat_pieces q a c scope) (l.concat_pieces q b d scope)
 concat_alike Sqlite s r scope = two_alike 5 6 (codes " || ") s r scope
 concat_alike Postgresql s r scope = two_alike 5 6 (codes " || ") s r scope
 concat_alike Mysql {a} {b} {c} {d} s r scope = enclosed_alike (codes "concat(") (two 5 6 (codes ", ") a c scope) (two 5 6 (codes ", ") b d scope) (two_alike 5 6 (codes ", ") s r scope)
 
-ilike_alike : (q : Quoting) (n : Bool) {a b c d : Laid} → Like a b → Like c d → (scope : List Origin) → Alike (l.ilike_pieces q n a c scope) (l.ilike_pieces q n b d scope)
+ilike_alike : (q : Dialect) (n : Bool) {a b c d : Laid} → Like a b → Like c d → (scope : List Origin) → Alike (l.ilike_pieces q n a c scope) (l.ilike_pieces q n b d scope)
 ilike_alike Sqlite n {a} {b} {c} {d} s r scope =
     enclosed_alike (codes "lower(") (two 5 5 (l.lower_like_word n) a c scope) (two 5 5 (l.lower_like_word n) b d scope) (two_alike 5 5 (l.lower_like_word n) s r scope)
 ilike_alike Postgresql n s r scope = two_alike 5 5 (ilike_word n) s r scope
 ilike_alike Mysql n {a} {b} {c} {d} s r scope =
     enclosed_alike (codes "lower(") (two 5 5 (l.lower_like_word n) a c scope) (two 5 5 (l.lower_like_word n) b d scope) (two_alike 5 5 (l.lower_like_word n) s r scope)
 
-distinct_alike : (q : Quoting) (n : Bool) {a b c d : Laid} → Like a b → Like c d → (scope : List Origin) → Alike (l.distinct_pieces q n a c scope) (l.distinct_pieces q n b d scope)
+distinct_alike : (q : Dialect) (n : Bool) {a b c d : Laid} → Like a b → Like c d → (scope : List Origin) → Alike (l.distinct_pieces q n a c scope) (l.distinct_pieces q n b d scope)
 distinct_alike Sqlite n s r scope = two_alike 5 5 (sqlite_distinct_word n) s r scope
 distinct_alike Postgresql n s r scope = two_alike 5 5 (distinct_word n) s r scope
 distinct_alike Mysql false {a} {b} {c} {d} s r scope = enclosed_alike (codes "NOT (") (two 5 5 (codes " <=> ") a c scope) (two 5 5 (codes " <=> ") b d scope) (two_alike 5 5 (codes " <=> ") s r scope)
@@ -156,7 +156,7 @@ exists_alike schema n o {a} {b} s scope =
     (behind (words (codes " WHERE ")) (inner a) (inner b) (s.pieces (scope ++ o ∷ []) l.param)))
     refl
 
-module _ (q : Quoting) (schema : Catalog) where
+module _ (q : Dialect) (schema : Catalog) where
   abbrev first : Expr-F (Known q schema) → Laid
   first y = laid_level q schema (map-Expr Expr Laid (laid q schema) (known y))
 

@@ -2,7 +2,7 @@
 use Rattle.std.proofs.Common.{◌≡◌, ℕ, List, [], ◌∷◌, ◌++◌, map, refl, sym, ap, ◌∙◌}
 use Rattle.std.proofs.lemmas.List.{map-append}
 use Rattle.base_core.specs.declared.value.Value.TheVariants as cell
-use Rattle.sql_text.specs.declared.names.Quoting.{Quoting}
+use Rattle.base_core.specs.declared.dialect.Dialect.{Dialect}
 use Rattle.sql_text.specs.Written.{Piece, words, name, value, Written, nothing_written, put_piece, put_all, with_leading_separators, with_separators}
 
 -- ---- texts
@@ -15,7 +15,7 @@ bare (value base v) = value base cell.Null
 
 -- what was written, without the values
 abbrev pub shown : Written → Written
-shown w = record { quoting = w.quoting; text = w.text; bases = w.bases; names = w.names; values = [] }
+shown w = record { dialect = w.dialect; text = w.text; bases = w.bases; names = w.names; values = [] }
 
 one_shown : (w : Written) (p : Piece) → shown (put_piece w p) ≡ shown (put_piece (shown w) (bare p))
 unfolding put_piece
@@ -46,9 +46,9 @@ abbrev pub Alike : List Piece → List Piece → Type 0
 Alike ps qs = map bare ps ≡ map bare qs
 
 -- pieces that differ only in values have one text
-pub one_text : (quoting : Quoting) (ps qs : List Piece) → Alike ps qs → (put_all (nothing_written quoting) ps).text ≡ (put_all (nothing_written quoting) qs).text
-one_text quoting ps qs alike =
-    ap (λ (w : Written). w.text) (shown_bare (nothing_written quoting) ps ∙ (ap (λ (rs : List Piece). shown (put_all (nothing_written quoting) rs)) alike ∙ sym (shown_bare (nothing_written quoting) qs)))
+pub one_text : (dialect : Dialect) (ps qs : List Piece) → Alike ps qs → (put_all (nothing_written dialect) ps).text ≡ (put_all (nothing_written dialect) qs).text
+one_text dialect ps qs alike =
+    ap (λ (w : Written). w.text) (shown_bare (nothing_written dialect) ps ∙ (ap (λ (rs : List Piece). shown (put_all (nothing_written dialect) rs)) alike ∙ sym (shown_bare (nothing_written dialect) qs)))
 
 pub both : (ps qs rs ss : List Piece) → Alike ps qs → Alike rs ss → Alike (ps ++ rs) (qs ++ ss)
 both ps qs rs ss a b = map-append bare ps rs ∙ (ap (λ (xs : List Piece). xs ++ map bare rs) a ∙ (ap (λ (xs : List Piece). map bare qs ++ xs) b ∙ sym (map-append bare qs ss)))

@@ -14,7 +14,7 @@ use Rattle.schema_core.specs.Catalog.{Catalog, spec_of, has_generated_key}
 use Rattle.schema_core.specs.Tables.{has_null, key_cells}
 use Rattle.expr_types.specs.declared.select.Statement.{Statement}
 use Rattle.expr_types.specs.declared.select.Statement.TheVariants as statement
-use Rattle.sql_text.specs.declared.names.Quoting.{Quoting}
+use Rattle.base_core.specs.declared.dialect.Dialect.{Dialect}
 use Rattle.sql_text.specs.Written.{Piece, words, name, value, with_separators}
 use Rattle.sql_rows.specs.Rows as r
 use Rattle.sql_rows.specs.Rows.{row_pieces, is_left_out, leaves_key}
@@ -93,7 +93,7 @@ list_alike spec drawn columns cells = by (wants_key spec cells)
     by true = list_filled cell.Null drawn columns cells
     by false = list_filled (cell.Int (pos 0)) drawn columns cells
 
-rows_alike : (q : Quoting) (spec : TableSpec) (drawn : Bool) (columns : List ColumnSpec) (rows : List (List Value)) → Alike (r.rows_pieces q drawn columns rows) (r.rows_pieces q drawn columns (map (without_row spec) rows))
+rows_alike : (q : Dialect) (spec : TableSpec) (drawn : Bool) (columns : List ColumnSpec) (rows : List (List Value)) → Alike (r.rows_pieces q drawn columns rows) (r.rows_pieces q drawn columns (map (without_row spec) rows))
 rows_alike q spec drawn columns rows =
     let lists = λ (xs : List (List Value)). with_separators (codes ", ") (r.row_list drawn columns) xs in
     either_way (list_all (is_left_out drawn) columns) (words (r.default_word q) ∷ []) (words (r.default_word q) ∷ []) (r.lists_pieces drawn columns rows) (r.lists_pieces drawn columns (map (without_row spec) rows)) refl
@@ -101,7 +101,7 @@ rows_alike q spec drawn columns rows =
     (behind (words (codes ") VALUES ")) (lists rows) (lists (map (without_row spec) rows))
     (joined_alike (r.row_list drawn columns) (without_row spec) (codes ", ") rows (all_alike (r.row_list drawn columns) (without_row spec) (list_alike spec drawn columns) rows))))
 
-insert_alike : (q : Quoting) (spec : TableSpec) (drawn : Bool) (rows : List (List Value)) → Alike (r.insert_rows q spec drawn rows) (r.insert_rows q spec drawn (map (without_row spec) rows))
+insert_alike : (q : Dialect) (spec : TableSpec) (drawn : Bool) (rows : List (List Value)) → Alike (r.insert_rows q spec drawn rows) (r.insert_rows q spec drawn (map (without_row spec) rows))
 insert_alike q spec drawn rows =
     let start : List Piece = words (codes "INSERT INTO ") ∷ name spec.name ∷ [] in
     both (start ++ r.rows_pieces q drawn spec.columns rows) (start ++ r.rows_pieces q drawn spec.columns (map (without_row spec) rows)) (r.returning_pieces q drawn spec) (r.returning_pieces q drawn spec)
@@ -117,7 +117,7 @@ keys_alike table word (c ∷ cs) (v ∷ key) =
     (keys_alike table (codes " AND ") cs key))
     (keys_alike table word cs (v ∷ key))
 
-row_alike : (q : Quoting) (schema : Catalog) (it : RowStmt) → Alike (row_pieces q schema it) (row_pieces q schema (without_cells schema it))
+row_alike : (q : Dialect) (schema : Catalog) (it : RowStmt) → Alike (row_pieces q schema it) (row_pieces q schema (without_cells schema it))
 unfolding row_pieces
 row_alike q schema (row.Insert table rows) =
     insert_alike q (spec_of schema table) (leaves_key (spec_of schema table) rows) rows
@@ -136,12 +136,12 @@ row_alike q schema (row.Delete table key) =
 
 -- ---- statements
 
-statement_alike : (q : Quoting) (schema : Catalog) (it : Statement) → Alike (statement_pieces q schema it) (statement_pieces q schema (without_values schema it))
+statement_alike : (q : Dialect) (schema : Catalog) (it : Statement) → Alike (statement_pieces q schema it) (statement_pieces q schema (without_values schema it))
 statement_alike q schema (statement.Select it) = select_alike q schema it
 statement_alike q schema (statement.Bulk it) = bulk_alike q schema it
 statement_alike q schema (statement.Row it) = row_alike q schema it
 
-text_without : (q : Quoting) (schema : Catalog) (it : Statement) → (text_of q schema it).text ≡ (text_of q schema (without_values schema it)).text
+text_without : (q : Dialect) (schema : Catalog) (it : Statement) → (text_of q schema it).text ≡ (text_of q schema (without_values schema it)).text
 unfolding text_of
 text_without q schema it = one_text q (statement_pieces q schema it) (statement_pieces q schema (without_values schema it)) (statement_alike q schema it)
 

@@ -16,8 +16,8 @@ use Rattle.expr_types.specs.declared.select.Joined.{Joined}
 use Rattle.expr_types.specs.declared.select.Select.{Select}
 use Rattle.expr_types.proofs.Folds.{fold-Lit}
 use Rattle.sql_semantics.specs.Plain.{alone, sources_of}
-use Rattle.sql_text.specs.declared.names.Quoting.{Quoting}
-use Rattle.sql_text.specs.declared.names.Quoting.TheVariants.{Sqlite, Postgresql, Mysql}
+use Rattle.base_core.specs.declared.dialect.Dialect.{Dialect}
+use Rattle.base_core.specs.declared.dialect.Dialect.TheVariants.{Sqlite, Postgresql, Mysql}
 use Rattle.sql_text.specs.Columns.{column_name}
 use Rattle.sql_text.specs.Words.{select_word, join_word}
 use Rattle.sql_text.specs.Written.{Piece, words, value, with_leading_separators, with_separators}
@@ -32,7 +32,7 @@ use Rattle.script_laws.specs.Texts.Values.{without, without_join, without_select
 use Rattle.script_laws.proofs.Texts.Values.Pieces.{Alike, both, behind, bare, all_alike, joined_alike}
 use Rattle.script_laws.proofs.Texts.Values.Expressions.{same, under_alike}
 
-module _ (q : Quoting) (schema : Catalog) where
+module _ (q : Dialect) (schema : Catalog) where
   -- ---- parts of selects
 
   whole_alike : (scope : List Origin) (e : Expr) → Alike (whole q schema scope e) (whole q schema scope (without e))
@@ -88,23 +88,23 @@ origins_are : (joins : List Joined) → map (λ j. j.origin) (map without_join j
 origins_are [] = refl
 origins_are (j ∷ joins) = ap (λ (os : List Origin). j.origin ∷ os) (origins_are joins)
 
-both_cut : (q : Quoting) (limit offset : ℕ) → Alike (cuts.both_pieces q limit offset) (cuts.both_pieces q 0 0)
+both_cut : (q : Dialect) (limit offset : ℕ) → Alike (cuts.both_pieces q limit offset) (cuts.both_pieces q 0 0)
 both_cut Sqlite limit offset = refl
 both_cut Postgresql limit offset = refl
 both_cut Mysql limit offset = refl
 
-offset_cut : (q : Quoting) (offset : ℕ) → Alike (cuts.offset_pieces q offset) (cuts.offset_pieces q 0)
+offset_cut : (q : Dialect) (offset : ℕ) → Alike (cuts.offset_pieces q offset) (cuts.offset_pieces q 0)
 offset_cut Sqlite offset = refl
 offset_cut Postgresql offset = refl
 offset_cut Mysql offset = refl
 
-cut_alike : (q : Quoting) (limit offset : Option ℕ) → Alike (cuts.cut_pieces q limit offset) (cuts.cut_pieces q (option_map (λ n. 0) limit) (option_map (λ n. 0) offset))
+cut_alike : (q : Dialect) (limit offset : Option ℕ) → Alike (cuts.cut_pieces q limit offset) (cuts.cut_pieces q (option_map (λ n. 0) limit) (option_map (λ n. 0) offset))
 cut_alike q None None = refl
 cut_alike q (Some limit) None = refl
 cut_alike q None (Some offset) = offset_cut q offset
 cut_alike q (Some limit) (Some offset) = both_cut q limit offset
 
-module _ (q : Quoting) (schema : Catalog) where
+module _ (q : Dialect) (schema : Catalog) where
   head_alike : (it : Select) (scope : List Origin) → Alike (words (select_word it.distinct) ∷ with_separators (codes ", ") (s.item_pieces q schema scope) it.items)
       (words (select_word it.distinct) ∷ with_separators (codes ", ") (s.item_pieces q schema scope) (map (λ item. (without item.0, item.1)) it.items))
   head_alike it scope =

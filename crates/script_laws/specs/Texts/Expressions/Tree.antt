@@ -11,8 +11,8 @@ use Rattle.expr_types.specs.declared.expr.Expr.TheFolds.{fold-Expr}
 use Rattle.expr_types.specs.declared.expr.Func.{Func}
 use Rattle.expr_types.specs.declared.expr.Func.TheVariants as func
 use Rattle.expr_types.specs.declared.expr.Origin.{Origin}
-use Rattle.sql_text.specs.declared.names.Quoting.{Quoting}
-use Rattle.sql_text.specs.declared.names.Quoting.TheVariants.{Sqlite, Postgresql, Mysql}
+use Rattle.base_core.specs.declared.dialect.Dialect.{Dialect}
+use Rattle.base_core.specs.declared.dialect.Dialect.TheVariants.{Sqlite, Postgresql, Mysql}
 use Rattle.sql_expressions.specs.Laid.{column_shown, source_shown}
 use Rattle.script_laws.specs.Texts.Grammar.Trees.{Test, Equal, NotEqual, Less, LessEqual, Greater, GreaterEqual, Like, Ilike, Distinct, Plus, Minus, Beside, Function, Count, Sum, Min, Max, Lower, Upper, Length, Coalesce, Concat, Source, Sql, column, mark, test, null_test, in_list, between, all_of, any_of, opposite, sum, product, negative, call, count_all, exists, Sqls, none, more}
 
@@ -44,7 +44,7 @@ arith_tree Sub a b = sum Minus a b
 arith_tree Mul a b = product a b
 
 -- `||` is a function in MySQL
-abbrev pub concat_tree : Quoting → Sql → Sql → Sql
+abbrev pub concat_tree : Dialect → Sql → Sql → Sql
 concat_tree Sqlite a b = sum Beside a b
 concat_tree Postgresql a b = sum Beside a b
 concat_tree Mysql a b = call Concat (more a (more b none))
@@ -53,13 +53,13 @@ concat_tree Mysql a b = call Concat (more a (more b none))
 abbrev pub lower_like : Bool → Sql → Sql → Sql
 lower_like negated a b = test (Like negated) (call Lower (more a none)) (call Lower (more b none))
 
-abbrev pub ilike_tree : Quoting → Bool → Sql → Sql → Sql
+abbrev pub ilike_tree : Dialect → Bool → Sql → Sql → Sql
 ilike_tree Sqlite negated a b = lower_like negated a b
 ilike_tree Postgresql negated a b = test (Ilike negated) a b
 ilike_tree Mysql negated a b = lower_like negated a b
 
 -- MySQL has the negated form alone
-abbrev pub distinct_tree : Quoting → Bool → Sql → Sql → Sql
+abbrev pub distinct_tree : Dialect → Bool → Sql → Sql → Sql
 distinct_tree Sqlite negated a b = test (Distinct negated) a b
 distinct_tree Postgresql negated a b = test (Distinct negated) a b
 distinct_tree Mysql false a b = opposite (test (Distinct true) a b)
@@ -73,7 +73,7 @@ abbrev pub source_tree : Catalog → Origin → Source
 source_tree schema origin = record { table = (spec_of schema origin.table).name; alias = origin.alias }
 
 -- one level, whose operands are trees under the sources in scope
-abbrev pub tree_at : Quoting → Catalog → Expr-F (List Origin → Sql) → List Origin → Sql
+abbrev pub tree_at : Dialect → Catalog → Expr-F (List Origin → Sql) → List Origin → Sql
 tree_at q schema (Expr-F.Column source c) scope = column (source_shown schema (slice_get scope source)) (column_shown schema (slice_get scope source) c)
 tree_at q schema (Expr-F.Lit v) scope = mark v
 tree_at q schema (Expr-F.Compare op a b) scope = test (compare_test op) (a scope) (b scope)
@@ -94,5 +94,5 @@ tree_at q schema Expr-F.CountAll scope = count_all
 tree_at q schema (Expr-F.Exists negated origin condition) scope = exists_tree negated (exists (source_tree schema origin) (condition (scope ++ origin ∷ [])))
 
 -- an expression's tree under the sources in scope
-unfoldable pub tree : Quoting → Catalog → Expr → List Origin → Sql
+unfoldable pub tree : Dialect → Catalog → Expr → List Origin → Sql
 tree q schema = fold-Expr (List Origin → Sql) (tree_at q schema)

@@ -18,47 +18,47 @@ use Rattle.expr_types.specs.declared.select.Bulk.TheVariants as bulk
 use Rattle.expr_types.specs.declared.select.Joined.{Joined}
 use Rattle.expr_types.specs.declared.select.Select.{Select}
 use Rattle.sql_semantics.specs.Plain.{alone, sources_of}
-use Rattle.sql_text.specs.declared.names.Quoting.{Quoting}
-use Rattle.sql_text.specs.declared.names.Quoting.TheVariants.{Sqlite, Postgresql, Mysql}
+use Rattle.base_core.specs.declared.dialect.Dialect.{Dialect}
+use Rattle.base_core.specs.declared.dialect.Dialect.TheVariants.{Sqlite, Postgresql, Mysql}
 use Rattle.sql_text.specs.Columns.{column_name}
 use Rattle.script_laws.specs.Texts.Grammar.Trees.{Sql, mark}
 use Rattle.script_laws.specs.Texts.Expressions.Tree.{tree, source_tree}
 use Rattle.script_laws.specs.Texts.Forms.Forms.{JoinForm, SelectForm, BulkForm, insert, update, delete, RowForm, fill, add, change, remove}
 
 -- the joins, each with its condition under the sources up to it
-abbrev pub joins_form : Quoting → Catalog → List Origin → List Joined → List JoinForm
-joins_form quoting schema before [] = []
-joins_form quoting schema before (join ∷ joins) =
-    record { left = join.left; source = source_tree schema join.origin; on = tree quoting schema join.on (before ++ join.origin ∷ []) } ∷ joins_form quoting schema (before ++ join.origin ∷ []) joins
+abbrev pub joins_form : Dialect → Catalog → List Origin → List Joined → List JoinForm
+joins_form dialect schema before [] = []
+joins_form dialect schema before (join ∷ joins) =
+    record { left = join.left; source = source_tree schema join.origin; on = tree dialect schema join.on (before ++ join.origin ∷ []) } ∷ joins_form dialect schema (before ++ join.origin ∷ []) joins
 
 -- the number of a limit or an offset as a value
 abbrev pub number : ℕ → Value
 number n = cell.Int (pos n)
 
-abbrev pub select_form : Quoting → Catalog → Select → SelectForm
-select_form quoting schema s = record {
+abbrev pub select_form : Dialect → Catalog → Select → SelectForm
+select_form dialect schema s = record {
   distinct = s.distinct;
-  items = map (λ item. (tree quoting schema item.0 (sources_of s), item.1)) s.items;
+  items = map (λ item. (tree dialect schema item.0 (sources_of s), item.1)) s.items;
   first = source_tree schema s.first;
-  joins = joins_form quoting schema (s.first ∷ []) s.joins;
-  filter = option_map (λ e. tree quoting schema e (sources_of s)) s.filter;
-  groups = map (λ e. tree quoting schema e (sources_of s)) s.groups;
-  having = option_map (λ e. tree quoting schema e (sources_of s)) s.having;
-  order = map (λ key. (tree quoting schema key.0 (sources_of s), key.1)) s.order;
+  joins = joins_form dialect schema (s.first ∷ []) s.joins;
+  filter = option_map (λ e. tree dialect schema e (sources_of s)) s.filter;
+  groups = map (λ e. tree dialect schema e (sources_of s)) s.groups;
+  having = option_map (λ e. tree dialect schema e (sources_of s)) s.having;
+  order = map (λ key. (tree dialect schema key.0 (sources_of s), key.1)) s.order;
   limit = option_map number s.limit;
   offset = option_map number s.offset;
 }
 
 -- what is set: a mark with NULL, or the tree of an expression
-abbrev pub set_tree : Quoting → Catalog → TableId → Option Expr → Sql
-set_tree quoting schema table None = mark cell.Null
-set_tree quoting schema table (Some e) = tree quoting schema e (alone table)
+abbrev pub set_tree : Dialect → Catalog → TableId → Option Expr → Sql
+set_tree dialect schema table None = mark cell.Null
+set_tree dialect schema table (Some e) = tree dialect schema e (alone table)
 
-abbrev pub bulk_form : Quoting → Catalog → Bulk → BulkForm
-bulk_form quoting schema (bulk.Insert table columns values) = insert (spec_of schema table).name (map (column_name schema table) columns) values
-bulk_form quoting schema (bulk.Update table cells filter) =
-    update (spec_of schema table).name (map (λ c. (column_name schema table c.0, set_tree quoting schema table c.1)) cells) (option_map (λ e. tree quoting schema e (alone table)) filter)
-bulk_form quoting schema (bulk.Delete table filter) = delete (spec_of schema table).name (option_map (λ e. tree quoting schema e (alone table)) filter)
+abbrev pub bulk_form : Dialect → Catalog → Bulk → BulkForm
+bulk_form dialect schema (bulk.Insert table columns values) = insert (spec_of schema table).name (map (column_name schema table) columns) values
+bulk_form dialect schema (bulk.Update table cells filter) =
+    update (spec_of schema table).name (map (λ c. (column_name schema table c.0, set_tree dialect schema table c.1)) cells) (option_map (λ e. tree dialect schema e (alone table)) filter)
+bulk_form dialect schema (bulk.Delete table filter) = delete (spec_of schema table).name (option_map (λ e. tree dialect schema e (alone table)) filter)
 
 -- ---- statements on rows
 
@@ -87,7 +87,7 @@ key_told table [] = []
 key_told table (column ∷ columns) = if column.key then (table, column.name) ∷ key_told table columns else key_told table columns
 
 -- PostgreSQL tells a generated key
-abbrev pub returned_columns : Quoting → Bool → TableSpec → List (List ℕ × List ℕ)
+abbrev pub returned_columns : Dialect → Bool → TableSpec → List (List ℕ × List ℕ)
 returned_columns Sqlite drawn spec = []
 returned_columns Postgresql drawn spec = if drawn then key_told spec.name spec.columns else []
 returned_columns Mysql drawn spec = []
@@ -98,13 +98,13 @@ key_values table [] key = []
 key_values table (column ∷ columns) [] = []
 key_values table (column ∷ columns) (v ∷ key) = if column.key then (table, column.name, v) ∷ key_values table columns key else key_values table columns (v ∷ key)
 
-abbrev pub add_form : Quoting → TableSpec → Bool → List (List Value) → RowForm
-add_form quoting spec drawn rows =
-    if list_all (λ column. drawn && column.key) spec.columns then fill spec.name (returned_columns quoting drawn spec)
-    else add spec.name (columns_with_values drawn spec.columns) (map (given_values drawn spec.columns) rows) (returned_columns quoting drawn spec)
+abbrev pub add_form : Dialect → TableSpec → Bool → List (List Value) → RowForm
+add_form dialect spec drawn rows =
+    if list_all (λ column. drawn && column.key) spec.columns then fill spec.name (returned_columns dialect drawn spec)
+    else add spec.name (columns_with_values drawn spec.columns) (map (given_values drawn spec.columns) rows) (returned_columns dialect drawn spec)
 
-abbrev pub row_form : Quoting → Catalog → RowStmt → RowForm
-row_form quoting schema (row.Insert table rows) = add_form quoting (spec_of schema table) (is_drawn (spec_of schema table) rows) rows
-row_form quoting schema (row.Update table key cells) =
+abbrev pub row_form : Dialect → Catalog → RowStmt → RowForm
+row_form dialect schema (row.Insert table rows) = add_form dialect (spec_of schema table) (is_drawn (spec_of schema table) rows) rows
+row_form dialect schema (row.Update table key cells) =
     change (spec_of schema table).name (map (λ c. (column_name schema table c.0, c.1)) cells) (key_values (spec_of schema table).name (spec_of schema table).columns key)
-row_form quoting schema (row.Delete table key) = remove (spec_of schema table).name (key_values (spec_of schema table).name (spec_of schema table).columns key)
+row_form dialect schema (row.Delete table key) = remove (spec_of schema table).name (key_values (spec_of schema table).name (spec_of schema table).columns key)

@@ -19,7 +19,7 @@ exists-returns-in_err-origin-clause-told t c =
     let sources = source_faults c.args.schema.now c.args.source.now in
     let inner = inner_scope c.args.scope.now c.args.source.now in
     let faults = name_faults c.args.schema.now c.args.condition.now inner in
-    let scope_is : c.as_slice.result.now ≡ inner = c.as_slice.ensures.value ∙ c.in_ok-inner.ensures.scope in
+    let scope_is : c.as_slice.result.now ≡ inner = c.as_slice.ensures.value ∙ c.in_ok-inner.ensures in
     let one = told_end faults c.one.result (subst (λ s. TellsFirst (name_faults c.args.schema.now c.args.condition.now s) c.one.result) scope_is c.one.ensures.told) in
     passed_on c.from_residual-in_err-origin.result c.in_err-origin.field-0.0 (sources ++ (faults ++ [])) c.from_residual-in_err-origin.ensures.1
     (paired c.origin_named.result c.one.result _ sources (faults ++ []) c.in_err-origin.ensures.told c.origin_named.ensures.told one)

@@ -1,4 +1,4 @@
-use Rattle.std.proofs.Common.{◌+◌, ◌<◌, length, arith}
+use Rattle.std.proofs.Common.{length}
 use Rattle.session_acts.proofs.Savepoints.{fewer_than_scopes, releases_none, releases_place}
 use Rattle.session_acts.proofs.ends.release_handle.Goals as goal
 

@@ -1,7 +1,7 @@
-use Rattle.session_acts.proofs.Savepoints.{commits, commits_not, committed_scopes}
+use Rattle.session_acts.proofs.Savepoints.{commits, commits_not}
 use Rattle.std.proofs.Common.{ap, ◌∙◌}
 use Rattle.session_scopes.specs.SessionState.{SessionState}
-use Rattle.session_calls.proofs.Acting.{alike_scopes, memory_stops}
+use Rattle.session_calls.proofs.Acting.{alike_scopes}
 use Rattle.session_calls.proofs.Joining.{passed_call}
 use Rattle.session_acts.proofs.inner_scopes.commit_transaction.Goals as goal
 
@@ -10,7 +10,7 @@ returns-in_err-send_commit-clause-call g c = passed_call c.from_residual.ensures
 
 pub returns-clause-call : goal.returns-clause-call
 returns-clause-call g c =
-    commits g.K.Keeper.moment c.in_ok-send_commit.ensures c.end_transaction.ensures.ok c.end_transaction.ensures.cause c.end_transaction.ensures.same
+    commits g.K.Keeper.moment c.in_ok-send_commit.ensures c.end_transaction.ensures.ended c.end_transaction.ensures.same
 
 pub end_transaction-requires : goal.end_transaction-requires
 end_transaction-requires g c = record {
@@ -19,7 +19,4 @@ end_transaction-requires g c = record {
 }
 
 pub returns-clause-outside : goal.returns-clause-outside
-returns-clause-outside g c = committed_scopes c.send_commit.new.session c.end_transaction.new.self c.end_transaction.result c.end_transaction.ensures.ok
-
-pub returns-clause-stops : goal.returns-clause-stops
-returns-clause-stops g c = memory_stops c.end_transaction.result c.end_transaction.ensures.cause
+returns-clause-outside g c = ap (λ (s : SessionState). s.frames.scopes) c.end_transaction.ensures.ended

@@ -2,7 +2,8 @@ use Rattle.std.proofs.Common.{◌≡◌, ℕ, ◌+◌, ◌-◌, arith, subst}
 use Rattle.keeper_core.specs.Beside.{moment_beside}
 use Rattle.keeper_core.specs.Moment.{Reaches}
 use Rattle.keeper_core.proofs.Sequence.{reaches_start}
-use Rattle.session_calls.proofs.Joining.{passed_call, same_itself, same_more}
+use Rattle.session_scopes.proofs.SessionLemmas.{goes_more}
+use Rattle.session_calls.proofs.Joining.{goes_itself, passed_call}
 use Rattle.session_acts.specs.Savepoints.{release_many}
 use Rattle.session_acts.proofs.Savepoints.{release_ended, release_stopped, release_turn}
 use Rattle.session_acts.proofs.inner_scopes.release_many.Goals as goal
@@ -12,7 +13,7 @@ loop-init g c = record {
   reached =
       let whole : c.args.count ≡ c.args.count - 0 = omega arith in
       subst (λ (n : ℕ). Reaches (moment_beside g.K.Keeper.moment) (release_many c.args.count) (c.args.session.now, c.args.keeper.now) (release_many n) (c.args.session.now, c.args.keeper.now)) whole reaches_start;
-  same = same_itself c.args.session.now;
+  same = goes_itself c.args.session.now;
   in_step = c.requires.in_step;
   fewer = omega arith;
   well = c.requires.well;
@@ -21,7 +22,7 @@ loop-init g c = record {
 pub loop-preserved : goal.loop-preserved
 loop-preserved g c = record {
   reached = release_turn (c.args.count - c.loop.counter) (c.args.count - (c.loop.counter + 1)) (omega (arith, c.loop-test.true)) c.loop.invariant.reached c.in_ok-release_one.ensures.call.step;
-  same = same_more c.loop.invariant.same c.in_ok-release_one.ensures.call.kept.same;
+  same = goes_more c.loop.invariant.same c.in_ok-release_one.ensures.call.kept.same;
   in_step = c.in_ok-release_one.ensures.call.kept.in_step;
   fewer = omega (arith, c.loop.invariant.fewer, c.in_ok-release_one.ensures.fewer);
   well = c.in_ok-release_one.ensures.well;
@@ -33,7 +34,7 @@ returns-in_err-release_one-clause-call g c =
     (record {
       step = release_stopped (c.args.count - c.loop.counter) (c.args.count - (c.loop.counter + 1)) (omega (arith, c.loop-test.true)) c.loop.invariant.reached c.in_err-release_one.ensures.call.step;
       kept = record {
-        same = same_more c.loop.invariant.same c.in_err-release_one.ensures.call.kept.same;
+        same = goes_more c.loop.invariant.same c.in_err-release_one.ensures.call.kept.same;
         in_step = c.in_err-release_one.ensures.call.kept.in_step;
       };
     })

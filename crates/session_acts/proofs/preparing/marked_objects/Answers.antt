@@ -7,9 +7,9 @@ use Rattle.session_acts.proofs.preparing.marked_objects.Goals as goal
 
 pub loop-place-preserved : goal.loop-place-preserved
 loop-place-preserved c =
-    c.in_ok-push_marked.ensures.marked
+    c.in_ok-push_marked.ensures
     ∙ ap (λ ms. ms ++ cond (is_to_delete c.args.arena.now (id_of_place c.loop-place.place)) (id_of_place c.loop-place.place ∷ []) []) c.loop-place.invariant
     ∙ sym (filter_of_map_range_with_len_more (is_to_delete c.args.arena.now) id_of_place 0 c.loop-place.place c.loop-place.place (omega arith))
 
-pub returns-clause-marked : goal.returns-clause-marked
-returns-clause-marked c = marked_all c.args.arena.now c.loop-place.marked c.loop-place.place (omega arith) c.loop-place.invariant
+pub returns : goal.returns
+returns c = marked_all c.args.arena.now c.loop-place.marked c.loop-place.place (omega arith) c.loop-place.invariant

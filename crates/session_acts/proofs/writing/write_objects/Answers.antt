@@ -1,4 +1,6 @@
-use Rattle.std.proofs.Common.{IfErr, OnOk, refl, ap}
+use Rattle.std.proofs.Common.{IfErr, OnOk, refl, sym, ap, subst}
+use Rattle.base_core.specs.declared.refusal.Refusal.TheVariants.{Memory}
+use Rattle.flush_order.specs.Ready.{AreReady}
 use Rattle.schema_core.specs.declared.changes.RowChanges.{RowChanges}
 use Rattle.object_rows.specs.declared.prepared.Prepared.{Prepared}
 use Rattle.session_calls.proofs.Joining.{passed_call}
@@ -9,34 +11,35 @@ use Rattle.session_acts.proofs.Steps.{no_room_alike, objects_written}
 use Rattle.session_acts.proofs.writing.write_objects.Goals as goal
 
 pub returns-in_err-prepared-clause-call : goal.returns-in_err-prepared-clause-call
-returns-in_err-prepared-clause-call g c = passed_call c.from_residual.ensures.1 (no_room_alike g.K.Keeper.moment c.in_err-prepared.ensures.cause refl)
+returns-in_err-prepared-clause-call g c = passed_call c.from_residual.ensures.1 (no_room_alike g.K.Keeper.moment refl refl)
 
 pub returns-in_err-prepared-clause-untouched : goal.returns-in_err-prepared-clause-untouched
 returns-in_err-prepared-clause-untouched g c =
-    passed_on (λ e. IsUntouched e c.args.session.now c.args.session.now) c.from_residual.result c.from_residual.ensures.1 (untouched_early c.in_err-prepared.field-0.0 c.args.session.now c.args.session.now c.in_err-prepared.ensures.cause)
+    passed_on (λ e. IsUntouched e c.args.session.now c.args.session.now) c.from_residual.result c.from_residual.ensures.1 (untouched_early Memory c.args.session.now c.args.session.now refl)
 
 pub returns-in_err-prepared-clause-cause : goal.returns-in_err-prepared-clause-cause
 returns-in_err-prepared-clause-cause g c =
     passed_on (λ e. IsFlushCause c.args.session.now (g.K.Keeper.moment c.args.keeper.now) e (g.K.Keeper.moment c.args.keeper.now)) c.from_residual.result c.from_residual.ensures.1
-    (memory_cause c.args.session.now.mapping.schema (changes_of c.args.session.now) c.in_err-prepared.field-0.0 (g.K.Keeper.moment c.args.keeper.now) (g.K.Keeper.moment c.args.keeper.now) c.in_err-prepared.ensures.cause)
+    (memory_cause c.args.session.now.mapping.schema (changes_of c.args.session.now) Memory (g.K.Keeper.moment c.args.keeper.now) (g.K.Keeper.moment c.args.keeper.now) refl)
 
 pub returns-in_err-rows-clause-call : goal.returns-in_err-rows-clause-call
-returns-in_err-rows-clause-call g c = passed_call c.from_residual-in_err-rows.ensures.1 (no_room_alike g.K.Keeper.moment c.in_err-rows.ensures.cause refl)
+returns-in_err-rows-clause-call g c = passed_call c.from_residual-in_err-rows.ensures.1 (no_room_alike g.K.Keeper.moment refl refl)
 
 pub returns-in_err-rows-clause-untouched : goal.returns-in_err-rows-clause-untouched
 returns-in_err-rows-clause-untouched g c =
-    passed_on (λ e. IsUntouched e c.args.session.now c.args.session.now) c.from_residual-in_err-rows.result c.from_residual-in_err-rows.ensures.1 (untouched_early c.in_err-rows.field-0.0 c.args.session.now c.args.session.now c.in_err-rows.ensures.cause)
+    passed_on (λ e. IsUntouched e c.args.session.now c.args.session.now) c.from_residual-in_err-rows.result c.from_residual-in_err-rows.ensures.1 (untouched_early Memory c.args.session.now c.args.session.now refl)
 
 pub returns-in_err-rows-clause-cause : goal.returns-in_err-rows-clause-cause
 returns-in_err-rows-clause-cause g c =
     passed_on (λ e. IsFlushCause c.args.session.now (g.K.Keeper.moment c.args.keeper.now) e (g.K.Keeper.moment c.args.keeper.now)) c.from_residual-in_err-rows.result c.from_residual-in_err-rows.ensures.1
-    (memory_cause c.args.session.now.mapping.schema (changes_of c.args.session.now) c.in_err-rows.field-0.0 (g.K.Keeper.moment c.args.keeper.now) (g.K.Keeper.moment c.args.keeper.now) c.in_err-rows.ensures.cause)
+    (memory_cause c.args.session.now.mapping.schema (changes_of c.args.session.now) Memory (g.K.Keeper.moment c.args.keeper.now) (g.K.Keeper.moment c.args.keeper.now) refl)
 
 pub write_warned-requires : goal.write_warned-requires
 write_warned-requires g c = record {
   in_step = c.requires.in_step;
   inside = c.requires.inside;
   range = c.in_ok-rows.ensures.range;
+  ready = subst (AreReady c.args.session.now.mapping.schema c.in_ok-rows.rows) (sym c.as_slice.ensures.value) c.in_ok-rows.ensures.ready;
   cleared = ap (λ (p : Prepared). p.cleared) c.in_ok-prepared.ensures.prepared;
 }
 

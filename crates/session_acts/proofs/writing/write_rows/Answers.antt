@@ -1,5 +1,4 @@
-use Rattle.std.proofs.Common.{◌≡◌, refl, ap, ◌∙◌}
-use Rattle.std.proofs.lemmas.Result.{IfErr-weaker}
+use Rattle.std.proofs.Common.{Ok, Err, refl, ap, ◌∙◌}
 use Rattle.base_core.specs.declared.refusal.Refusal.TheVariants.{Memory}
 use Rattle.session_scopes.specs.SessionState.{SessionState}
 use Rattle.session_calls.proofs.Joining.{passed_call}
@@ -46,27 +45,40 @@ returns-in_err-keys-clause-cause g c =
     passed_on (λ e. IsWriteCause c.args.session.now.mapping.schema c.args.rows.now (g.K.Keeper.moment c.args.keeper.now) e (g.K.Keeper.moment c.send_plan.new.keeper)) c.from_residual-in_err-keys.result c.from_residual-in_err-keys.ensures.1
     (run_cause c.args.session.now.mapping.schema c.args.rows.now c.in_ok-statements.statements c.in_err-keys.field-0.0 (g.K.Keeper.moment c.args.keeper.now) (g.K.Keeper.moment c.send_plan.new.keeper) c.in_ok-statements.ensures c.in_err-keys.ensures.cause)
 
--- the objects stand as they were written, or memory ran out
+-- memory ran out as the objects changed
+pub returns-in_err-step-clause-call : goal.returns-in_err-step-clause-call
+returns-in_err-step-clause-call g c =
+    passed_call c.from_residual-in_err-step.ensures.1
+    (rows_written g.K.Keeper.moment c.args.prepared.now c.args.rows.now {r = Err Memory} c.in_ok-statements.statements c.in_ok-keys.keys c.in_ok-statements.ensures c.requires.in_step c.in_ok-keys.ensures.call
+    tt refl c.in_err-step.ensures.same c.in_err-step.ensures.scopes)
+
+pub returns-in_err-step-clause-scopes : goal.returns-in_err-step-clause-scopes
+returns-in_err-step-clause-scopes g c = c.in_err-step.ensures.scopes ∙ ap (λ (s : SessionState). s.frames.scopes) c.in_ok-keys.ensures.alike
+
+pub returns-in_err-step-clause-well : goal.returns-in_err-step-clause-well
+returns-in_err-step-clause-well g c = ap (λ (s : SessionState). s.failed) c.in_err-step.ensures.rest ∙ ap (λ (s : SessionState). s.failed) c.in_ok-keys.ensures.alike
+
+pub returns-in_err-step-clause-untouched : goal.returns-in_err-step-clause-untouched
+returns-in_err-step-clause-untouched g c =
+    passed_on (λ e. IsUntouched e c.args.session.now c.step.new.self) c.from_residual-in_err-step.result c.from_residual-in_err-step.ensures.1 (untouched_early Memory c.args.session.now c.step.new.self refl)
+
+pub returns-in_err-step-clause-cause : goal.returns-in_err-step-clause-cause
+returns-in_err-step-clause-cause g c =
+    passed_on (λ e. IsWriteCause c.args.session.now.mapping.schema c.args.rows.now (g.K.Keeper.moment c.args.keeper.now) e (g.K.Keeper.moment c.send_plan.new.keeper)) c.from_residual-in_err-step.result c.from_residual-in_err-step.ensures.1
+    (memory_cause c.args.session.now.mapping.schema c.args.rows.now Memory (g.K.Keeper.moment c.args.keeper.now) (g.K.Keeper.moment c.send_plan.new.keeper) refl)
+
+-- the objects stand as they were written
 pub returns-clause-call : goal.returns-clause-call
 returns-clause-call g c =
-    rows_written g.K.Keeper.moment c.args.prepared.now c.args.rows.now c.in_ok-statements.statements c.in_ok-keys.keys c.in_ok-statements.ensures c.requires.in_step c.in_ok-keys.ensures.call
-    c.step.ensures.ok c.step.ensures.cause c.step.ensures.same c.step.ensures.scopes
+    rows_written g.K.Keeper.moment c.args.prepared.now c.args.rows.now {r = Ok tt} c.in_ok-statements.statements c.in_ok-keys.keys c.in_ok-statements.ensures c.requires.in_step c.in_ok-keys.ensures.call
+    c.in_ok-step.ensures.ok tt c.in_ok-step.ensures.same c.in_ok-step.ensures.scopes
 
 pub returns-clause-scopes : goal.returns-clause-scopes
-returns-clause-scopes g c = c.step.ensures.scopes ∙ ap (λ (s : SessionState). s.frames.scopes) c.in_ok-keys.ensures.alike
+returns-clause-scopes g c = c.in_ok-step.ensures.scopes ∙ ap (λ (s : SessionState). s.frames.scopes) c.in_ok-keys.ensures.alike
 
 pub returns-clause-well : goal.returns-clause-well
-returns-clause-well g c = ap (λ (s : SessionState). s.failed) c.step.ensures.rest ∙ ap (λ (s : SessionState). s.failed) c.in_ok-keys.ensures.alike
+returns-clause-well g c = ap (λ (s : SessionState). s.failed) c.in_ok-step.ensures.rest ∙ ap (λ (s : SessionState). s.failed) c.in_ok-keys.ensures.alike
 
 pub returns-clause-written : goal.returns-clause-written
 returns-clause-written g c =
-    rows_settled c.args.prepared.now c.args.rows.now c.in_ok-keys.keys c.args.session.now c.send_plan.new.session c.step.new.self c.step.result c.in_ok-keys.ensures.alike c.in_ok-keys.ensures.long c.step.ensures.ok
-
-pub returns-clause-untouched : goal.returns-clause-untouched
-returns-clause-untouched g c =
-    IfErr-weaker c.step.result (λ e. e ≡ Memory) (λ e. IsUntouched e c.args.session.now c.step.new.self) (λ e is. untouched_early e c.args.session.now c.step.new.self is) c.step.ensures.cause
-
-pub returns-clause-cause : goal.returns-clause-cause
-returns-clause-cause g c =
-    IfErr-weaker c.step.result (λ e. e ≡ Memory) (λ e. IsWriteCause c.args.session.now.mapping.schema c.args.rows.now (g.K.Keeper.moment c.args.keeper.now) e (g.K.Keeper.moment c.send_plan.new.keeper))
-    (λ e is. memory_cause c.args.session.now.mapping.schema c.args.rows.now e (g.K.Keeper.moment c.args.keeper.now) (g.K.Keeper.moment c.send_plan.new.keeper) is) c.step.ensures.cause
+    rows_settled c.args.prepared.now c.args.rows.now c.in_ok-keys.keys c.args.session.now c.send_plan.new.session c.step.new.self c.in_ok-keys.ensures.alike c.in_ok-keys.ensures.long c.in_ok-step.ensures.ok

@@ -1,6 +1,7 @@
-use Rattle.std.proofs.Common.{IfErr, length, sym, ap, ◌∙◌, subst, arith}
+use Rattle.std.proofs.Common.{IfErr, length, refl, sym, ap, ◌∙◌, subst, arith}
 use Rattle.std.proofs.lemmas.Result.{IfErr-weaker}
-use Rattle.flush_order.specs.Ready.{AreInRange}
+use Rattle.base_core.specs.declared.refusal.Refusal.TheVariants.{Memory}
+use Rattle.flush_order.specs.Ready.{AreInRange, AreReady}
 use Rattle.schema_core.specs.Catalog.{Catalog}
 use Rattle.session_scopes.specs.SessionState.{SessionState, with_warnings}
 use Rattle.session_calls.proofs.Joining.{passed_call}
@@ -12,7 +13,7 @@ use Rattle.session_acts.proofs.writing.write_warned.Goals as goal
 
 -- there was no room for a warning
 pub returns-in_err-warn_all-clause-call : goal.returns-in_err-warn_all-clause-call
-returns-in_err-warn_all-clause-call g c = passed_call c.from_residual.ensures.1 (no_room_alike g.K.Keeper.moment c.in_err-warn_all.ensures.cause c.in_err-warn_all.ensures.alike)
+returns-in_err-warn_all-clause-call g c = passed_call c.from_residual.ensures.1 (no_room_alike g.K.Keeper.moment refl c.in_err-warn_all.ensures.alike)
 
 pub returns-in_err-warn_all-clause-scopes : goal.returns-in_err-warn_all-clause-scopes
 returns-in_err-warn_all-clause-scopes g c = ap (λ (s : SessionState). s.frames.scopes) c.in_err-warn_all.ensures.alike
@@ -22,12 +23,12 @@ returns-in_err-warn_all-clause-well g c = ap (λ (s : SessionState). s.failed) c
 
 pub returns-in_err-warn_all-clause-untouched : goal.returns-in_err-warn_all-clause-untouched
 returns-in_err-warn_all-clause-untouched g c =
-    passed_on (λ e. IsUntouched e c.args.session.now c.warn_all.new.self) c.from_residual.result c.from_residual.ensures.1 (untouched_early c.in_err-warn_all.field-0.0 c.args.session.now c.warn_all.new.self c.in_err-warn_all.ensures.cause)
+    passed_on (λ e. IsUntouched e c.args.session.now c.warn_all.new.self) c.from_residual.result c.from_residual.ensures.1 (untouched_early Memory c.args.session.now c.warn_all.new.self refl)
 
 pub returns-in_err-warn_all-clause-cause : goal.returns-in_err-warn_all-clause-cause
 returns-in_err-warn_all-clause-cause g c =
     passed_on (λ e. IsWriteCause c.args.session.now.mapping.schema c.args.rows.now (g.K.Keeper.moment c.args.keeper.now) e (g.K.Keeper.moment c.args.keeper.now)) c.from_residual.result c.from_residual.ensures.1
-    (memory_cause c.args.session.now.mapping.schema c.args.rows.now c.in_err-warn_all.field-0.0 (g.K.Keeper.moment c.args.keeper.now) (g.K.Keeper.moment c.args.keeper.now) c.in_err-warn_all.ensures.cause)
+    (memory_cause c.args.session.now.mapping.schema c.args.rows.now Memory (g.K.Keeper.moment c.args.keeper.now) (g.K.Keeper.moment c.args.keeper.now) refl)
 
 -- the warnings were noted
 pub write_rows-requires : goal.write_rows-requires
@@ -36,6 +37,7 @@ write_rows-requires g c = record {
   inside = omega (arith, ap (λ (s : SessionState). length s.frames.scopes) c.in_ok-warn_all.ensures.alike, c.requires.inside);
   cleared = c.requires.cleared;
   range = subst (λ (s : SessionState). AreInRange s.mapping.schema c.args.rows.now) (sym c.in_ok-warn_all.ensures.alike) c.requires.range;
+  ready = subst (λ (s : SessionState). AreReady s.mapping.schema c.args.rows.now c.args.ready.now) (sym c.in_ok-warn_all.ensures.alike) c.requires.ready;
 }
 
 pub returns-clause-call : goal.returns-clause-call

@@ -1,4 +1,3 @@
-use Rattle.session_parts.proofs.ObjectLemmas.{made_still}
 use Rattle.keeper_core.specs.Beside.{on_own}
 use Rattle.session_scopes.specs.Changes.{deletion_marked}
 use Rattle.session_calls.specs.Refusals.{IsRefused, mark_fault}
@@ -8,7 +7,7 @@ use Rattle.session_calls.proofs.Refusing.{mark_refused, passed_on, refused_enter
 use Rattle.session_calls.proofs.objects.delete.Goals as goal
 
 pub mark_deletion-requires : goal.mark_deletion-requires
-mark_deletion-requires g c = record { object = (made_still c.args.session.now.graph c.enter.new.session.graph c.args.object c.in_ok-enter.ensures.call.kept.same.classes c.requires.object) }
+mark_deletion-requires g c = record { object = (c.in_ok-enter.ensures.call.kept.same.there c.args.object c.requires.object).0 }
 
 pub returns-in_err-enter-clause-call : goal.returns-in_err-enter-clause-call
 unfolding delete

@@ -1,4 +1,3 @@
-use Rattle.session_parts.proofs.ObjectLemmas.{made_still}
 use Rattle.session_calls.proofs.Acting.{attr_still}
 use Rattle.keeper_core.specs.Beside.{on_own}
 use Rattle.session_scopes.specs.Changes.{cell_read}
@@ -10,7 +9,7 @@ use Rattle.session_calls.proofs.objects.read_cell.Goals as goal
 use Rattle.std.proofs.Common.{refl}
 
 pub read-requires : goal.read-requires
-read-requires g c = record { object = (made_still c.args.session.now.graph c.enter.new.session.graph c.args.object c.in_ok-enter.ensures.call.kept.same.classes c.requires.object); attr = attr_still c.args.session.now c.enter.new.session c.args.object c.args.attr c.in_ok-enter.ensures.call.kept.same c.requires.object c.requires.attr }
+read-requires g c = record { object = (c.in_ok-enter.ensures.call.kept.same.there c.args.object c.requires.object).0; attr = attr_still c.args.session.now c.enter.new.session c.args.object c.args.attr c.in_ok-enter.ensures.call.kept.same c.requires.object c.requires.attr }
 
 pub returns-in_err-enter-clause-call : goal.returns-in_err-enter-clause-call
 unfolding read_cell

@@ -1,5 +1,4 @@
 use Rattle.keeper_core.specs.Beside.{on_own}
-use Rattle.session_parts.proofs.ObjectLemmas.{made_still}
 use Rattle.session_scopes.specs.Changes.{value_put}
 use Rattle.session_calls.specs.Refusals.{IsRefused, kept_fault}
 use Rattle.session_calls.specs.Steps.{pending_fault}
@@ -10,7 +9,7 @@ use Rattle.session_calls.proofs.objects.set_fitting.Goals as goal
 
 pub put_value-requires : goal.put_value-requires
 put_value-requires g c = record {
-  object = (made_still c.args.session.now.graph c.enter.new.session.graph c.args.object c.in_ok-enter.ensures.call.kept.same.classes c.requires.object);
+  object = (c.in_ok-enter.ensures.call.kept.same.there c.args.object c.requires.object).0;
   attr = attr_still c.args.session.now c.enter.new.session c.args.object c.args.attr c.in_ok-enter.ensures.call.kept.same c.requires.object c.requires.attr;
   fits = fits_still c.args.session.now c.enter.new.session c.args.object c.args.attr c.args.value c.in_ok-enter.ensures.call.kept.same c.requires.object c.requires.fits;
 }

@@ -1,5 +1,6 @@
-use Rattle.std.proofs.Common.{true, sym, ◌∙◌}
-use Rattle.session_calls.proofs.Acting.{closed_scopes, closes_by, closes_outside, memory_stops, no_scope_open, some_scope_open}
+use Rattle.std.proofs.Common.{true, ap, sym, ◌∙◌}
+use Rattle.session_scopes.specs.SessionState.{SessionState}
+use Rattle.session_calls.proofs.Acting.{closes_by, closes_outside, no_scope_open, some_scope_open}
 use Rattle.session_calls.proofs.scopes.close.Goals as goal
 
 pub close_inside-requires : goal.close_inside-requires
@@ -10,10 +11,7 @@ returns-then-is_in_transaction-clause-call g c = closes_by g.K.Keeper.moment tru
 
 pub returns-clause-call : goal.returns-clause-call
 returns-clause-call g c =
-    closes_outside g.K.Keeper.moment (sym c.is_in_transaction.ensures ∙ c.if-is_in_transaction.false) (no_scope_open c.args.session.now.frames.scopes (sym c.is_in_transaction.ensures ∙ c.if-is_in_transaction.false)) c.requires.in_step c.let_go.ensures.ok c.let_go.ensures.cause c.let_go.ensures.same
+    closes_outside g.K.Keeper.moment (sym c.is_in_transaction.ensures ∙ c.if-is_in_transaction.false) (no_scope_open c.args.session.now.frames.scopes (sym c.is_in_transaction.ensures ∙ c.if-is_in_transaction.false)) c.requires.in_step c.let_go.ensures.closed c.let_go.ensures.same
 
 pub returns-clause-outside : goal.returns-clause-outside
-returns-clause-outside g c = closed_scopes c.args.session.now c.let_go.new.self c.let_go.result c.let_go.ensures.ok
-
-pub returns-clause-stops : goal.returns-clause-stops
-returns-clause-stops g c = memory_stops c.let_go.result c.let_go.ensures.cause
+returns-clause-outside g c = ap (λ (s : SessionState). s.frames.scopes) c.let_go.ensures.closed

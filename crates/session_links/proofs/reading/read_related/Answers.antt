@@ -1,4 +1,3 @@
-use Rattle.session_parts.proofs.ObjectLemmas.{made_still}
 use Rattle.session_calls.proofs.Joining.{passed_call}
 use Rattle.session_calls.specs.Refusals.{IsRefused}
 use Rattle.session_calls.specs.Steps.{pending_fault}
@@ -10,10 +9,10 @@ use Rattle.session_links.proofs.reading.read_related.Goals as goal
 
 pub read_link-requires : goal.read_link-requires
 read_link-requires g c =
-    let same = c.in_ok-enter.ensures.call.kept.same in
+    let on = c.in_ok-enter.ensures.call.kept.same in
     record {
-      object = made_still c.args.session.now.graph c.enter.new.session.graph c.args.object same.classes c.requires.object;
-      relation = place_still c.args.session.now c.enter.new.session c.args.object c.args.relation same c.requires.object c.requires.relation;
+      object = (on.there c.args.object c.requires.object).0;
+      relation = place_still c.args.session.now c.enter.new.session c.args.object c.args.relation on c.requires.object c.requires.relation;
     }
 
 pub returns-in_err-enter-clause-call : goal.returns-in_err-enter-clause-call

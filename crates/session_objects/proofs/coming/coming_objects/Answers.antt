@@ -20,11 +20,11 @@ returns-clause-objects c =
     (λ list told.
     coming_is c.args.session.now.mapping c.args.session.now.graph c.args.object c.in_ok-closure.closure list
     (c.in_ok-closure.ensures.is
-    ∙ ap (λ (m : Mapped). closure_of SaveUpdate m c.arena-arena.result.now c.args.object) c.mapping.ensures.mapping
+    ∙ ap (λ (m : Mapped). closure_of SaveUpdate m c.arena-arena.result.now c.args.object) c.mapping.ensures
     ∙ ap (λ (g : Graph). closure_of SaveUpdate c.args.session.now.mapping g c.args.object) c.arena-arena.ensures.objects)
     (told ∙ ap (λ (os : List ObjId). outsiders c.arena-arena.result.now (c.args.object ∷ without os c.args.object)) c.as_slice.ensures.members
     ∙ ap (λ (g : Graph). outsiders g (c.args.object ∷ without c.in_ok-closure.closure c.args.object)) c.arena-arena.ensures.objects))
-    c.with_others.ensures.list
+    c.with_others.ensures
 
 pub returns-clause-once : goal.returns-clause-once
 returns-clause-once c =
@@ -32,7 +32,7 @@ returns-clause-once c =
     (λ list told.
     coming_once c.args.session.now.mapping c.args.session.now.graph c.args.object c.in_ok-closure.closure list c.requires
     (subst (λ (g : Graph). IsClosure SaveUpdate c.args.session.now.mapping g c.args.object c.in_ok-closure.closure) c.arena-arena.ensures.objects
-    (subst (λ (m : Mapped). IsClosure SaveUpdate m c.arena-arena.result.now c.args.object c.in_ok-closure.closure) c.mapping.ensures.mapping c.in_ok-closure.ensures.closure))
+    (subst (λ (m : Mapped). IsClosure SaveUpdate m c.arena-arena.result.now c.args.object c.in_ok-closure.closure) c.mapping.ensures c.in_ok-closure.ensures.closure))
     (told ∙ ap (λ (os : List ObjId). outsiders c.arena-arena.result.now (c.args.object ∷ without os c.args.object)) c.as_slice.ensures.members
     ∙ ap (λ (g : Graph). outsiders g (c.args.object ∷ without c.in_ok-closure.closure c.args.object)) c.arena-arena.ensures.objects))
-    c.with_others.ensures.list
+    c.with_others.ensures

@@ -11,11 +11,11 @@ pub returns-in-Ok-None-clause-step : goal.returns-in-Ok-None-clause-step
 returns-in-Ok-None-clause-step g c =
     let rules = rules_of c.args.hooks.now in
     is_made rules c.args.class c.args.given.now c.args.session.now c.make.new.self c.make.result
-    (sym c.in-Ok-None.field-0-is ∙ (c.in-Ok-None.ensures.fault ∙ ap (λ (m : Mapped). given_fault rules m c.args.class c.args.given.now) c.mapping.ensures.mapping)) c.make.ensures.step
+    (sym c.in-Ok-None.field-0-is ∙ (c.in-Ok-None.ensures.fault ∙ ap (λ (m : Mapped). given_fault rules m c.args.class c.args.given.now) c.mapping.ensures)) c.make.ensures.step
 
 pub returns-in-Ok-Some-clause-step : goal.returns-in-Ok-Some-clause-step
 returns-in-Ok-Some-clause-step g c =
     let rules = rules_of c.args.hooks.now in
     not_made rules c.args.class c.args.given.now c.args.session.now _
-    (sym c.in-Ok-Some.field-0-is ∙ (c.in-Ok-Some.ensures.fault ∙ ap (λ (m : Mapped). given_fault rules m c.args.class c.args.given.now) c.mapping.ensures.mapping))
+    (sym c.in-Ok-Some.field-0-is ∙ (c.in-Ok-Some.ensures.fault ∙ ap (λ (m : Mapped). given_fault rules m c.args.class c.args.given.now) c.mapping.ensures))
     (subst (λ (f : Option Refusal). IfSome f IsOwn) c.in-Ok-Some.field-0-is c.in-Ok-Some.ensures.own)

@@ -1,4 +1,3 @@
-use Rattle.session_parts.proofs.ObjectLemmas.{made_still}
 use Rattle.session_calls.proofs.Acting.{attr_still}
 use Rattle.session_calls.proofs.Joining.{err_call, passed_call, then_call}
 use Rattle.session_calls.specs.Refusals.{IsRefused}
@@ -11,7 +10,7 @@ use Rattle.session_objects.proofs.setting.set_judged.Goals as goal
 pub set_inside-requires : goal.set_inside-requires
 set_inside-requires g c = record {
   in_step = c.in_ok-enter.ensures.call.kept.in_step;
-  object = made_still c.args.session.now.graph c.enter.new.session.graph c.args.object c.in_ok-enter.ensures.call.kept.same.classes c.requires.object;
+  object = (c.in_ok-enter.ensures.call.kept.same.there c.args.object c.requires.object).0;
   attr = attr_still c.args.session.now c.enter.new.session c.args.object c.args.attr c.in_ok-enter.ensures.call.kept.same c.requires.object c.requires.attr;
 }
 

@@ -9,5 +9,5 @@ use Rattle.session_objects.proofs.setting.value_invalid.Goals as goal
 pub returns-clause-fault : goal.returns-clause-fault
 returns-clause-fault g c =
     let rules = rules_of c.args.hooks.now in
-    subst (λ (m : Mapped). IfOk c.invalid_fault.result (λ fault. fault ≡ invalid_fault rules m (object_at c.args.session.now.graph c.args.object).class c.args.attr c.args.value.now)) c.mapping.ensures.mapping
+    subst (λ (m : Mapped). IfOk c.invalid_fault.result (λ fault. fault ≡ invalid_fault rules m (object_at c.args.session.now.graph c.args.object).class c.args.attr c.args.value.now)) c.mapping.ensures
     (subst (λ (o : Object). IfOk c.invalid_fault.result (λ fault. fault ≡ invalid_fault rules c.mapping.result.now o.class c.args.attr c.args.value.now)) c.object.ensures.is c.invalid_fault.ensures.fault)

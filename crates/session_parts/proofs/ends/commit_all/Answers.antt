@@ -8,7 +8,7 @@ use Rattle.session_parts.proofs.ends.commit_all.Goals as goal
 pub loop-number-preserved : goal.loop-number-preserved
 loop-number-preserved c =
     let less : c.loop-number.number < length c.args.arena.now.objects = subst (λ (n : ℕ). c.loop-number.number < n) c.count-number-end.ensures.count c.loop-number-test.true in (
-      changed_more object_committed c.args.arena.now c.loop-number.arena c.commit_one.new.arena c.loop-number.number (c.loop-number.number + 1) less c.loop-number.invariant.1 c.loop-number.invariant.0 refl c.in_ok-commit_one.ensures.ok,
+      changed_more object_committed c.args.arena.now c.loop-number.arena c.commit_one.new.arena c.loop-number.number (c.loop-number.number + 1) less c.loop-number.invariant.1 c.loop-number.invariant.0 refl c.commit_one.ensures.committed,
       classes_long c.loop-number.arena c.commit_one.new.arena c.commit_one.ensures.keeps.classes ∙ c.loop-number.invariant.1,
       keeps_then c.args.arena.now c.loop-number.arena c.commit_one.new.arena c.loop-number.invariant.2 c.commit_one.ensures.keeps,
     )

@@ -1,3 +1,5 @@
+use Rattle.std.proofs.Common.{◌≡◌, Ok, Err, refl}
+use Rattle.base_core.specs.declared.refusal.Refusal.TheVariants.{Memory}
 use Rattle.session_calls.specs.Steps.{pending_fault}
 use Rattle.session_links.specs.Reading.{related_fault}
 use Rattle.session_perform.proofs.Refusing.{full_refused}
@@ -13,14 +15,19 @@ pub returns-in_err-related-clause-performed : goal.returns-in_err-related-clause
 returns-in_err-related-clause-performed g c =
     passed g.K.Keeper.moment c.from_residual.ensures.1 (untold_then g.K.Keeper.moment (λ related session. answer.Thing (link_shown session.graph related)) c.in_err-related.ensures.call)
 
+pub returns-in_err-told-clause-performed : goal.returns-in_err-told-clause-performed
+returns-in_err-told-clause-performed g c =
+    passed g.K.Keeper.moment c.from_residual-in_err-told.ensures.1 (tells_then g.K.Keeper.moment (λ related session. answer.Thing (link_shown session.graph related)) (Err Memory) tt tt refl c.in_ok-related.ensures.call)
+
 pub returns-clause-performed : goal.returns-clause-performed
 returns-clause-performed g c =
-    tells_then g.K.Keeper.moment (λ related session. answer.Thing (link_shown session.graph related)) c.link_told.result c.link_told.ensures.told c.link_told.ensures.there c.link_told.ensures.cause c.in_ok-related.ensures.call
+    tells_then g.K.Keeper.moment (λ related session. answer.Thing (link_shown session.graph related)) (Ok c.in_ok-told.told) c.in_ok-told.ensures.told c.in_ok-told.ensures.there tt c.in_ok-related.ensures.call
 
 pub returns-in_err-related-clause-refused : goal.returns-in_err-related-clause-refused
 returns-in_err-related-clause-refused g c = λ rules.
     passed_on (λ e. IsRefusedLine rules (resolved.ShowLink c.args.object c.args.relation) c.args.session.now (g.K.Keeper.moment c.args.keeper.now) e c.read_related.new.session (g.K.Keeper.moment c.read_related.new.keeper)) c.from_residual.result c.from_residual.ensures.1 c.in_err-related.ensures.refused
 
-pub returns-clause-refused : goal.returns-clause-refused
-returns-clause-refused g c = λ rules.
-    full_refused (pending_fault c.args.session.now) (related_fault c.args.object c.args.relation c.args.session.now) c.args.session.now c.read_related.new.session c.link_told.result c.link_told.ensures.cause
+pub returns-in_err-told-clause-refused : goal.returns-in_err-told-clause-refused
+returns-in_err-told-clause-refused g c = λ rules.
+    full_refused (pending_fault c.args.session.now) (related_fault c.args.object c.args.relation c.args.session.now) c.args.session.now c.read_related.new.session c.from_residual-in_err-told.result
+    (passed_on (λ e. e ≡ Memory) c.from_residual-in_err-told.result c.from_residual-in_err-told.ensures.1 refl)

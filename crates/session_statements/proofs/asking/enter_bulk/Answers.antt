@@ -18,16 +18,16 @@ returns-in_err-enter-clause-refused g c =
 
 pub returns-in-Some-clause-call : goal.returns-in-Some-clause-call
 returns-in-Some-clause-call g c =
-    not_taken g.K.Keeper.moment c.args.statement.now (ap (λ (m : Mapped). update_fault_in m c.args.statement.now) (sym c.mapping.ensures.mapping) ∙ sym c.in-Some.ensures.fault) c.in-Some.ensures.own c.in_ok-enter.ensures.call
+    not_taken g.K.Keeper.moment c.args.statement.now (ap (λ (m : Mapped). update_fault_in m c.args.statement.now) (sym c.mapping.ensures) ∙ sym c.in-Some.ensures.fault) c.in-Some.ensures.own c.in_ok-enter.ensures.call
 
 pub returns-in-Some-clause-refused : goal.returns-in-Some-clause-refused
 returns-in-Some-clause-refused g c =
     refused_inside (update_fault c.args.statement.now) c.args.session.now c.enter.new.session c.enter.new.session c.in_ok-enter.ensures.entered c.in_ok-enter.ensures.well
-    (ap (λ (m : Mapped). update_fault_in m c.args.statement.now) (sym c.mapping.ensures.mapping) ∙ sym c.in-Some.ensures.fault) refl
+    (ap (λ (m : Mapped). update_fault_in m c.args.statement.now) (sym c.mapping.ensures) ∙ sym c.in-Some.ensures.fault) refl
 
 pub returns-in-None-clause-call : goal.returns-in-None-clause-call
 returns-in-None-clause-call g c =
-    enters_bulk g.K.Keeper.moment c.args.statement.now (ap (λ (m : Mapped). update_fault_in m c.args.statement.now) (sym c.mapping.ensures.mapping) ∙ sym c.in-None.ensures.fault) c.in_ok-enter.ensures.call
+    enters_bulk g.K.Keeper.moment c.args.statement.now (ap (λ (m : Mapped). update_fault_in m c.args.statement.now) (sym c.mapping.ensures) ∙ sym c.in-None.ensures.fault) c.in_ok-enter.ensures.call
 
 pub returns-in-None-clause-spares : goal.returns-in-None-clause-spares
-returns-in-None-clause-spares g c = ap (λ (m : Mapped). writes_key m.schema c.args.statement.now) (sym c.mapping.ensures.mapping) ∙ c.in-None.ensures.spares refl
+returns-in-None-clause-spares g c = ap (λ (m : Mapped). writes_key m.schema c.args.statement.now) (sym c.mapping.ensures) ∙ c.in-None.ensures.spares refl

@@ -1,4 +1,4 @@
-use Rattle.std.proofs.Common.{List, Err, ap, sym, ◌∙◌, subst}
+use Rattle.std.proofs.Common.{List, Err, ap, refl, sym, ◌∙◌, subst}
 use Rattle.base_core.specs.declared.ids.TableId.{TableId}
 use Rattle.base_core.specs.declared.refusal.Refusal.TheVariants.{StaleDataError}
 use Rattle.base_core.specs.declared.value.Value.{Value}
@@ -18,21 +18,21 @@ returns-in_err-answered-clause-call g c = λ changes keys known stale are sendab
 pub returns-in_err-is_row_missing-clause-call : goal.returns-in_err-is_row_missing-clause-call
 returns-in_err-is_row_missing-clause-call g c = λ changes keys known stale are sendable sent.
     passed_call c.from_residual-in_err-is_row_missing.ensures.1
-    (write_ran_out g.K.Keeper.moment c.args.session.now.mapping.schema changes c.args.planned.now keys known c.args.statement.now sent c.in_err-is_row_missing.ensures.cause are c.in_ok-answered.ensures.call sendable)
+    (write_ran_out g.K.Keeper.moment c.args.session.now.mapping.schema changes c.args.planned.now keys known c.args.statement.now sent refl are c.in_ok-answered.ensures.call sendable)
 
 pub returns-then-branch-clause-call : goal.returns-then-branch-clause-call
 returns-then-branch-clause-call g c = λ changes keys known stale are sendable sent.
     subst (λ (t : TableId). IsSessionCall g.K.Keeper.moment (λ (x : List (List Value)). keys_then keys c.args.planned.now x) (send_one c.args.session.now.mapping.schema changes c.args.planned.now keys)
     (c.args.session.now, c.args.keeper.now) (Err (StaleDataError t)) (c.write_noted.new.session, c.write_noted.new.keeper)) (sym c.table_of.ensures)
     (row_missing g.K.Keeper.moment c.args.session.now.mapping.schema changes c.args.planned.now keys known c.args.statement.now sent are c.in_ok-answered.ensures.call sendable
-    (sym (c.in_ok-is_row_missing.ensures.missing c.args.session.now.mapping.schema changes stale) ∙ c.if-branch.true))
+    (sym (c.in_ok-is_row_missing.ensures c.args.session.now.mapping.schema changes stale) ∙ c.if-branch.true))
 
 pub returns-then-branch-clause-cause : goal.returns-then-branch-clause-cause
 returns-then-branch-clause-cause g c = λ changes stale.
     stale_cause c.args.session.now.mapping.schema changes c.args.planned.now c.in_ok-answered.answered (g.K.Keeper.moment c.args.keeper.now) (g.K.Keeper.moment c.write_noted.new.keeper) (StaleDataError c.table_of.result)
-    (sym (c.in_ok-is_row_missing.ensures.missing c.args.session.now.mapping.schema changes stale) ∙ c.if-branch.true) (ap (λ (t : TableId). StaleDataError t) c.table_of.ensures)
+    (sym (c.in_ok-is_row_missing.ensures c.args.session.now.mapping.schema changes stale) ∙ c.if-branch.true) (ap (λ (t : TableId). StaleDataError t) c.table_of.ensures)
 
 pub returns-clause-call : goal.returns-clause-call
 returns-clause-call g c = λ changes keys known stale are sendable sent.
     keys_answered g.K.Keeper.moment c.args.session.now.mapping.schema changes c.args.planned.now keys known c.args.statement.now sent are c.in_ok-answered.ensures.call sendable
-    (sym (c.in_ok-is_row_missing.ensures.missing c.args.session.now.mapping.schema changes stale) ∙ c.if-branch.false)
+    (sym (c.in_ok-is_row_missing.ensures c.args.session.now.mapping.schema changes stale) ∙ c.if-branch.false)

@@ -10,11 +10,11 @@ use Rattle.session_statements.proofs.run.send_one.Goals as goal
 
 pub returns-in_err-fitting_statement-clause-call : goal.returns-in_err-fitting_statement-clause-call
 returns-in_err-fitting_statement-clause-call g c = λ keys are.
-    passed_call c.from_residual.ensures.1 (no_room_call g.K.Keeper.moment c.in_err-fitting_statement.ensures.cause refl)
+    passed_call c.from_residual.ensures.1 (no_room_call g.K.Keeper.moment refl refl)
 
 pub returns-in-None-clause-call : goal.returns-in-None-clause-call
 returns-in-None-clause-call g c = λ keys are.
-    let same : c.schema-schema.result.now ≡ c.args.session.now.mapping.schema = c.schema-schema.ensures ∙ ap (λ (m : Mapped). m.schema) c.mapping.ensures.mapping in
+    let same : c.schema-schema.result.now ≡ c.args.session.now.mapping.schema = c.schema-schema.ensures.schema ∙ ap (λ (m : Mapped). m.schema) c.mapping.ensures in
     unfit g.K.Keeper.moment c.args.session.now.mapping.schema c.args.changes.now c.args.planned.now keys c.args.known.now are
     (ap (λ (s : Catalog). is_sendable s c.args.changes.now (keys_at c.args.known.now) c.args.planned.now) (sym same)
     ∙ none_if (is_sendable c.schema-schema.result.now c.args.changes.now (keys_at c.args.known.now) c.args.planned.now) (statement_sent c.schema-schema.result.now c.args.changes.now (keys_at c.args.known.now) c.args.planned.now)
@@ -23,7 +23,7 @@ returns-in-None-clause-call g c = λ keys are.
 
 pub returns-in-Some-clause-call : goal.returns-in-Some-clause-call
 returns-in-Some-clause-call g c = λ keys are.
-    let same : c.schema-schema.result.now ≡ c.args.session.now.mapping.schema = c.schema-schema.ensures ∙ ap (λ (m : Mapped). m.schema) c.mapping.ensures.mapping in
+    let same : c.schema-schema.result.now ≡ c.args.session.now.mapping.schema = c.schema-schema.ensures.schema ∙ ap (λ (m : Mapped). m.schema) c.mapping.ensures in
     c.send_fitting.ensures.call c.args.changes.now keys c.args.known.now c.requires.places are
     (ap (λ (s : Catalog). is_sendable s c.args.changes.now (keys_at c.args.known.now) c.args.planned.now) (sym same)
     ∙ some_if (is_sendable c.schema-schema.result.now c.args.changes.now (keys_at c.args.known.now) c.args.planned.now) c.in-Some.statement (statement_sent c.schema-schema.result.now c.args.changes.now (keys_at c.args.known.now) c.args.planned.now)

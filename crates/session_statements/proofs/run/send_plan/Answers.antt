@@ -10,10 +10,10 @@ use Rattle.session_statements.proofs.Noted.{no_room_call}
 use Rattle.session_statements.proofs.run.send_plan.Goals as goal
 
 pub returns-in_err-places-clause-call : goal.returns-in_err-places-clause-call
-returns-in_err-places-clause-call g c = passed_call c.from_residual.ensures.1 (no_room_call g.K.Keeper.moment c.in_err-places.ensures.cause refl)
+returns-in_err-places-clause-call g c = passed_call c.from_residual.ensures.1 (no_room_call g.K.Keeper.moment refl refl)
 
 pub returns-in_err-known-clause-call : goal.returns-in_err-known-clause-call
-returns-in_err-known-clause-call g c = passed_call c.from_residual-in_err-known.ensures.1 (no_room_call g.K.Keeper.moment c.in_err-known.ensures.cause refl)
+returns-in_err-known-clause-call g c = passed_call c.from_residual-in_err-known.ensures.1 (no_room_call g.K.Keeper.moment refl refl)
 
 pub loop-planned-init : goal.loop-planned-init
 loop-planned-init g c =
@@ -41,7 +41,7 @@ returns-in_err-keep_keys-clause-call g c =
     let within : c.loop-planned.planned-index < length c.args.plan.now = subst (λ (xs : List Planned). c.loop-planned.planned-index < length xs) c.as_slice-planned-items.ensures c.loop-planned-test.true in
     let is : c.planned-item.result ≡ get_or c.args.plan.now c.loop-planned.planned-index c.planned-item.result = c.planned-item.is ∙ ap (λ (xs : List Planned). get_or xs c.loop-planned.planned-index c.planned-item.result) c.as_slice-planned-items.ensures in
     passed_call c.from_residual-in_err-keep_keys.ensures.1
-    (along_ran_out g.K.Keeper.moment c.args.session.now.mapping.schema c.args.changes.now c.args.plan.now c.loop-planned.planned-index c.loop-planned.known c.planned-item.result c.in_ok-answered.answered c.in_err-keep_keys.ensures.cause c.loop-planned.invariant within is
+    (along_ran_out g.K.Keeper.moment c.args.session.now.mapping.schema c.args.changes.now c.args.plan.now c.loop-planned.planned-index c.loop-planned.known c.planned-item.result c.in_ok-answered.answered refl c.loop-planned.invariant within is
     (at_schema g.K.Keeper.moment c.args.changes.now c.planned-item.result c.loop-planned.known c.loop-planned.session.mapping.schema c.args.session.now.mapping.schema (ap (λ (s : SessionState). s.mapping.schema) c.loop-planned.invariant.alike) c.in_ok-answered.ensures.call))
 
 pub loop-planned-preserved : goal.loop-planned-preserved

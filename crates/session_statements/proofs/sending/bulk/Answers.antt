@@ -1,5 +1,6 @@
-use Rattle.std.proofs.Common.{◌∙◌, ap}
+use Rattle.std.proofs.Common.{◌∙◌, ap, refl}
 use Rattle.base_core.specs.declared.ids.TableId.{TableId}
+use Rattle.base_core.specs.declared.refusal.Refusal.TheVariants.{Memory}
 use Rattle.keeper_core.specs.Keeping.{RefusesBulk}
 use Rattle.keeper_core.specs.declared.sent.Sent.TheVariants as sent
 use Rattle.session_calls.proofs.Joining.{passed_call}
@@ -15,7 +16,7 @@ returns-in_err-count-clause-call g c = passed_call c.from_residual.ensures.1 (bu
 pub returns-in_err-step-clause-call : goal.returns-in_err-step-clause-call
 returns-in_err-step-clause-call g c =
     passed_call c.from_residual-in_err-step.ensures.1
-    (bulk_lost g.K.Keeper.moment c.args.statement.now c.in_ok-count.count c.in_ok-count.ensures.call c.in_err-step.ensures.cause c.in_err-step.ensures.same)
+    (bulk_lost g.K.Keeper.moment c.args.statement.now c.in_ok-count.count c.in_ok-count.ensures.call refl c.in_err-step.ensures.same)
 
 pub returns-clause-call : goal.returns-clause-call
 returns-clause-call g c =
@@ -34,5 +35,5 @@ returns-in_err-step-clause-refused g c =
     passed_on
     (λ e. IsRefusedByKeeper (sent.Bulk c.args.statement.now) (RefusesBulk c.args.session.now.mapping.schema c.args.statement.now) c.args.session.now (g.K.Keeper.moment c.args.keeper.now) e c.step.new.self (g.K.Keeper.moment c.send_bulk.new.keeper))
     c.from_residual-in_err-step.result c.from_residual-in_err-step.ensures.1
-    (lost_then (sent.Bulk c.args.statement.now) (RefusesBulk c.args.session.now.mapping.schema c.args.statement.now) c.args.session.now c.step.new.self (g.K.Keeper.moment c.args.keeper.now) (g.K.Keeper.moment c.send_bulk.new.keeper) c.in_err-step.field-0.0
-    c.in_err-step.ensures.cause)
+    (lost_then (sent.Bulk c.args.statement.now) (RefusesBulk c.args.session.now.mapping.schema c.args.statement.now) c.args.session.now c.step.new.self (g.K.Keeper.moment c.args.keeper.now) (g.K.Keeper.moment c.send_bulk.new.keeper) Memory
+    refl)

@@ -8,7 +8,7 @@ use Rattle.session_statements.proofs.sending.rows.Goals as goal
 pub returns-in-Ok-clause-call : goal.returns-in-Ok-clause-call
 returns-in-Ok-clause-call g c =
     asks g.K.Keeper.moment c.schema.result.now c.args.select.now
-    (c.schema.ensures ∙ ap (λ (m : Mapped). m.schema) c.mapping.ensures.mapping ∙ ap (λ (s : SessionState). s.mapping.schema) c.in-Ok.ensures.ok)
+    (c.schema.ensures.schema ∙ ap (λ (m : Mapped). m.schema) c.mapping.ensures ∙ ap (λ (s : SessionState). s.mapping.schema) c.in-Ok.ensures.ok)
     c.in-Ok.ensures.ok c.requires.in_step c.query.ensures.call
 
 pub returns-in-Err-clause-call : goal.returns-in-Err-clause-call
@@ -17,5 +17,5 @@ returns-in-Err-clause-call g c = no_room_call g.K.Keeper.moment (rows c.args.sel
 pub returns-in-Ok-clause-refused : goal.returns-in-Ok-clause-refused
 returns-in-Ok-clause-refused g c =
     query_refused g.K.Keeper.moment c.schema.result.now c.args.select.now c.args.session.now c.note_query.new.session
-    (c.schema.ensures ∙ ap (λ (m : Mapped). m.schema) c.mapping.ensures.mapping ∙ ap (λ (s : SessionState). s.mapping.schema) c.in-Ok.ensures.ok)
+    (c.schema.ensures.schema ∙ ap (λ (m : Mapped). m.schema) c.mapping.ensures ∙ ap (λ (s : SessionState). s.mapping.schema) c.in-Ok.ensures.ok)
     c.in-Ok.ensures.ok c.query.ensures.call

@@ -7,7 +7,7 @@ use Rattle.session_statements.proofs.writing.write_noted.Goals as goal
 pub returns-in-Ok-clause-call : goal.returns-in-Ok-clause-call
 returns-in-Ok-clause-call g c =
     wrote g.K.Keeper.moment c.args.session.now.mapping.schema c.schema.result.now c.args.statement.now
-    (c.schema.ensures ∙ ap (λ (m : Mapped). m.schema) c.mapping.ensures.mapping ∙ ap (λ (s : SessionState). s.mapping.schema) c.in-Ok.ensures.ok)
+    (c.schema.ensures.schema ∙ ap (λ (m : Mapped). m.schema) c.mapping.ensures ∙ ap (λ (s : SessionState). s.mapping.schema) c.in-Ok.ensures.ok)
     c.in-Ok.ensures.ok c.requires.in_step c.write.ensures.call
 
 pub returns-in-Err-clause-call : goal.returns-in-Err-clause-call

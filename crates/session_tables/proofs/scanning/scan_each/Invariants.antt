@@ -11,5 +11,5 @@ use Rattle.session_tables.proofs.scanning.scan_each.Given as goal
 abbrev pub invariant-loop-number : goal.invariant-loop-number
 invariant-loop-number g l =
     Reaches g.K.Keeper.moment (scan_each l.schema) l.fn.keeper (each scan_one l.tables (drop l.number (table_ids l.schema))) l.keeper
-    × HasDepth l.depth (g.K.Keeper.moment l.keeper)
+    × HasDepth (g.K.Keeper.moment l.fn.keeper).depth (g.K.Keeper.moment l.keeper)
     × All (λ table. IsTable l.schema table.0) l.tables

@@ -5,6 +5,6 @@ use Rattle.session_tables.proofs.scanning.scan_tables.Goals as goal
 
 pub returns-clause-call : goal.returns-clause-call
 returns-clause-call g c =
-    scans_all g.K.Keeper.moment c.open_scopes-depth.result c.schema.result.now c.args.session.now c.open_scopes-depth.ensures.scopes
-    (c.schema.ensures ∙ ap (λ (mapped : Mapped). mapped.schema) c.mapping.ensures.mapping)
+    scans_all g.K.Keeper.moment c.schema.result.now c.args.session.now
+    (c.schema.ensures.schema ∙ ap (λ (mapped : Mapped). mapped.schema) c.mapping.ensures) c.requires.in_step
     c.scan_each.ensures.step c.scan_each.ensures.deep c.scan_each.ensures.stops

@@ -1,7 +1,8 @@
 use Rattle.std.proofs.Common.{◌≡◌, true, refl, rules}
 use Rattle.keeper_core.specs.Programs.{ends_early}
 use Rattle.keeper_core.proofs.Sequence.{reaches_start, unit_end, unit_err, unit_turn}
-use Rattle.session_calls.proofs.Joining.{passed_call, same_alike, same_more}
+use Rattle.session_scopes.proofs.SessionLemmas.{goes_more}
+use Rattle.session_calls.proofs.Joining.{goes_alike, passed_call}
 use Rattle.session_calls.proofs.Refusing.{passed_on}
 use Rattle.session_tables.specs.Steps.{change_one}
 use Rattle.session_tables.proofs.Changing.{alike_more}
@@ -13,7 +14,7 @@ returns-in_err-change_one-clause-call g c =
     (record {
       step = unit_err (change_one c.args.change) c.args.order.now c.loop-table.table-index c.loop-table.invariant.0 c.loop-table-test.true (search rules) c.in_err-change_one.ensures.call.step;
       kept = record {
-        same = same_more (same_alike c.args.session.now c.loop-table.session c.loop-table.invariant.1) c.in_err-change_one.ensures.call.kept.same;
+        same = goes_more (goes_alike c.args.session.now c.loop-table.session c.loop-table.invariant.1) c.in_err-change_one.ensures.call.kept.same;
         in_step = c.in_err-change_one.ensures.call.kept.in_step;
       };
     })
@@ -32,7 +33,7 @@ pub returns-clause-call : goal.returns-clause-call
 returns-clause-call g c = record {
   step = unit_end (change_one c.args.change) c.args.order.now c.loop-table.table-index c.loop-table.invariant.0 c.loop-table-test.false;
   kept = record {
-    same = same_alike c.args.session.now c.loop-table.session c.loop-table.invariant.1;
+    same = goes_alike c.args.session.now c.loop-table.session c.loop-table.invariant.1;
     in_step = c.loop-table.invariant.2;
   };
 }

@@ -12,13 +12,13 @@ none_in [] none = refl
 none_in (e ∷ es) none = absurd (omega arith)
 
 pub parts-returns-in_default : goal.parts-returns-in_default
-parts-returns-in_default t c = sym (no_parts c.args.writer.now c.args.least c.args.word.now c.args.writer.now.quoting c.args.schema.now c.args.operands.now c.args.scope.now (none_in c.args.operands.now c.in_default.ensures.cases))
+parts-returns-in_default t c = sym (no_parts c.args.writer.now c.args.least c.args.word.now c.args.writer.now.dialect c.args.schema.now c.args.operands.now c.args.scope.now (none_in c.args.operands.now c.in_default.ensures.cases))
 
 pub expression-returns-in-Call : goal.expression-returns-in-Call
 expression-returns-in-Call t c =
     let P : List Piece → Type 0 = λ ps. Wrote ps c.call.result c.args.writer.now c.call.new.writer in
-    let whole = ap (λ e. (laid c.args.writer.now.quoting c.args.schema.now e).pieces c.args.scope.now c.args.base.now) c.in-Call.is ∙ ap (λ l. l.pieces c.args.scope.now c.args.base.now) (laid_call c.args.writer.now.quoting c.args.schema.now c.in-Call.function c.in-Call.operands) in
-    let told = subst (λ (es : List Expr). P (call_pieces c.in-Call.function (map (laid c.args.writer.now.quoting c.args.schema.now) es) c.args.scope.now)) c.as_slice-in-Call.ensures c.call.ensures in
+    let whole = ap (λ e. (laid c.args.writer.now.dialect c.args.schema.now e).pieces c.args.scope.now c.args.base.now) c.in-Call.is ∙ ap (λ l. l.pieces c.args.scope.now c.args.base.now) (laid_call c.args.writer.now.dialect c.args.schema.now c.in-Call.function c.in-Call.operands) in
+    let told = subst (λ (es : List Expr). P (call_pieces c.in-Call.function (map (laid c.args.writer.now.dialect c.args.schema.now) es) c.args.scope.now)) c.as_slice-in-Call.ensures c.call.ensures in
     subst P (sym whole) told
 
 pub more_parts-loop-operand-preserved : goal.more_parts-loop-operand-preserved

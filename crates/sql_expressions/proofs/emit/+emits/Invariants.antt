@@ -6,9 +6,9 @@ use Rattle.sql_expressions.proofs.emit.+emits.Given as goal
 
 abbrev pub invariant-more_parts-loop-operand : goal.invariant-more_parts-loop-operand
 invariant-more_parts-loop-operand l =
-    (l.writer.quoting ≡ l.initial.writer.quoting)
-    × (put_all l.writer (with_leading_separators l.word (part l.least l.scope) (map (laid l.initial.writer.quoting l.schema) (drop l.operand-index l.operands)))
-    ≡ put_all l.initial.writer (with_leading_separators l.word (part l.least l.scope) (map (laid l.initial.writer.quoting l.schema) l.operands)))
+    (l.writer.dialect ≡ l.initial.writer.dialect)
+    × (put_all l.writer (with_leading_separators l.word (part l.least l.scope) (map (laid l.initial.writer.dialect l.schema) (drop l.operand-index l.operands)))
+    ≡ put_all l.initial.writer (with_leading_separators l.word (part l.least l.scope) (map (laid l.initial.writer.dialect l.schema) l.operands)))
 
 abbrev pub decreases-expression : goal.decreases-expression
 decreases-expression l = 8 * goal.size-expression l

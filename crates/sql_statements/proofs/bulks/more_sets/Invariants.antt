@@ -5,6 +5,6 @@ use Rattle.sql_statements.proofs.bulks.more_sets.Given as goal
 
 abbrev pub invariant-loop-next : goal.invariant-loop-next
 invariant-loop-next l =
-    (l.writer.quoting ≡ l.initial.writer.quoting)
-    × (put_all l.writer (with_leading_separators (codes ", ") (set_pieces l.initial.writer.quoting l.schema l.table) (drop l.next-index l.sets))
-    ≡ put_all l.initial.writer (with_leading_separators (codes ", ") (set_pieces l.initial.writer.quoting l.schema l.table) l.sets))
+    (l.writer.dialect ≡ l.initial.writer.dialect)
+    × (put_all l.writer (with_leading_separators (codes ", ") (set_pieces l.initial.writer.dialect l.schema l.table) (drop l.next-index l.sets))
+    ≡ put_all l.initial.writer (with_leading_separators (codes ", ") (set_pieces l.initial.writer.dialect l.schema l.table) l.sets))

@@ -5,6 +5,6 @@ use Rattle.sql_statements.proofs.selects.more_items.Given as goal
 
 abbrev pub invariant-loop-next : goal.invariant-loop-next
 invariant-loop-next l =
-    (l.writer.quoting ≡ l.initial.writer.quoting)
-    × (put_all l.writer (with_leading_separators (codes ", ") (item_pieces l.initial.writer.quoting l.schema l.scope) (drop l.next-index l.items))
-    ≡ put_all l.initial.writer (with_leading_separators (codes ", ") (item_pieces l.initial.writer.quoting l.schema l.scope) l.items))
+    (l.writer.dialect ≡ l.initial.writer.dialect)
+    × (put_all l.writer (with_leading_separators (codes ", ") (item_pieces l.initial.writer.dialect l.schema l.scope) (drop l.next-index l.items))
+    ≡ put_all l.initial.writer (with_leading_separators (codes ", ") (item_pieces l.initial.writer.dialect l.schema l.scope) l.items))

@@ -1,7 +1,6 @@
-use Rattle.std.proofs.Common.{◌≡◌, ℕ, ◌++◌, None, Some, string_bytes, refl, sym, ap, ◌∙◌, arith, rules}
+use Rattle.std.proofs.Common.{None, Some, string_bytes, rules}
 use Rattle.std.proofs.lemmas.Str.Pattern.{split_parts}
 use Rattle.sql_text.proofs.Doubling.{doubled_plain, doubled_split, doubled_step}
-use Rattle.sql_text.specs.Names.{with_byte_doubled}
 use Rattle.sql_text.proofs.names.doubled.Goals as goal
 
 pub loop-before-preserved : goal.loop-before-preserved

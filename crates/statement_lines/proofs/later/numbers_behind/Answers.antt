@@ -11,9 +11,9 @@ loop-foreign-preserved c =
     let i = c.loop-foreign.foreign-index in
     let behind-is : c.is_behind-behind.result ≡ is_behind c.args.order.now c.args.table (target_of schema (get_or foreigns i c.foreign-item.result)) = cc in
     record {
-      so_far = one_more schema c.args.order.now c.args.table foreigns i c.foreign-item.result c.is_behind-behind.result c.loop-foreign.number c.in_ok-number.number c.loop-foreign.numbers.items c.put_number.new.numbers.items _ c.loop-foreign-test.true behind-is c.in_ok-put_number.ensures.ok c.in_ok-number.ensures.next c.loop-foreign.invariant.so_far;
-      counted = omega (arith, c.loop-foreign.invariant.counted, c.in_ok-number.ensures.next);
-      numbered = all_with (λ number. number < length (spec_of schema c.args.table).foreigns) c.loop-foreign.numbers.items c.put_number.new.numbers.items c.is_behind-behind.result c.loop-foreign.number c.loop-foreign.invariant.numbered (search rules) c.in_ok-put_number.ensures.ok;
+      so_far = one_more schema c.args.order.now c.args.table foreigns i c.foreign-item.result c.is_behind-behind.result c.loop-foreign.number c.in_ok-number.number c.loop-foreign.numbers.items c.put_number.new.numbers.items _ c.loop-foreign-test.true behind-is c.in_ok-put_number.ensures c.in_ok-number.ensures c.loop-foreign.invariant.so_far;
+      counted = omega (arith, c.loop-foreign.invariant.counted, c.in_ok-number.ensures);
+      numbered = all_with (λ number. number < length (spec_of schema c.args.table).foreigns) c.loop-foreign.numbers.items c.put_number.new.numbers.items c.is_behind-behind.result c.loop-foreign.number c.loop-foreign.invariant.numbered (search rules) c.in_ok-put_number.ensures;
     }
 
 pub returns-clause-numbers : goal.returns-clause-numbers

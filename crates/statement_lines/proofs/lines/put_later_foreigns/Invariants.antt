@@ -4,4 +4,4 @@ use Rattle.statement_lines.specs.Echo.{note_alters}
 use Rattle.statement_lines.proofs.lines.put_later_foreigns.Given as goal
 
 abbrev pub invariant-loop-note : goal.invariant-loop-note
-invariant-loop-note l = string_bytes l.text ≡ string_bytes l.initial.text ++ flat_map (note_alters l.quoting l.schema) (take l.note-index l.notes)
+invariant-loop-note l = string_bytes l.text ≡ string_bytes l.initial.text ++ flat_map (note_alters l.dialect l.schema) (take l.note-index l.notes)

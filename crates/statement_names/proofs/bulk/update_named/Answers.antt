@@ -13,7 +13,7 @@ stopped r s e first xs ys none h g told = subst (IsFirst e) (ap (λ zs. zs ++ xs
 pub returns-in_err-cells-clause-told : goal.returns-in_err-cells-clause-told
 returns-in_err-cells-clause-told c =
     let spec_is : c.spec.result.now ≡ spec_named c.args.schema.now c.args.table.now = c.spec.ensures ∙ ap (spec_of c.args.schema.now) c.in_ok-number.ensures.value in
-    let scope_is : c.as_slice-scope.result.now ≡ scope_alone c.args.table.now = c.as_slice-scope.ensures.value ∙ c.in_ok-scope.ensures.scope in
+    let scope_is : c.as_slice-scope.result.now ≡ scope_alone c.args.table.now = c.as_slice-scope.ensures.value ∙ c.in_ok-scope.ensures in
     let cells = subst (λ s. TellsFirst (cells_faults c.args.schema.now s (scope_alone c.args.table.now) [] c.args.cells.now) c.cells_named.result) spec_is
     (subst (λ s. TellsFirst (cells_faults c.args.schema.now c.spec.result.now s [] c.args.cells.now) c.cells_named.result) scope_is c.cells_named.ensures.told) in
     let filter = subst (λ s. TellsFirst (faults_if_given (λ e. name_faults c.args.schema.now e s) c.args.filter.now) c.named_if_given.result) scope_is c.named_if_given.ensures.told in

@@ -1,4 +1,4 @@
-use Rattle.sqlite_selects.proofs.Items.{answers_given, answers_of_items, answers_wide}
+use Rattle.expr_typing.proofs.Items.{answers_given, answers_of_items, answers_wide}
 use Rattle.keeper_sqlite.proofs.acting.SqliteKeeperKeeper.query.Goals as goal
 
 pub returns-clause-wide : goal.returns-clause-wide

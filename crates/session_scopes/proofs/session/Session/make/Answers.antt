@@ -13,7 +13,7 @@ invariant_of-self-2 c =
 pub returns-clause-step : goal.returns-clause-step
 returns-clause-step c =
     let none : first_given_fault c.self.inside.mapping c.args.class c.args.given.now ≡ None = search rules in
-    made_is c.args.class c.args.given.now c.in_ok-copy.copy.items _ c.args.self.now c.in_ok-object.object c.make.new.self c.put_given.new.arena c.self.view_is none c.in_ok-object.ensures.step c.in_ok-copy.ensures.values c.put_given.ensures.put
+    made_is c.args.class c.args.given.now c.in_ok-copy.copy.items _ c.args.self.now c.in_ok-object.object c.make.new.self c.put_given.new.arena c.self.view_is none c.in_ok-object.ensures.step c.in_ok-copy.ensures c.put_given.ensures.put
 
 pub returns-clause-made : goal.returns-clause-made
 returns-clause-made c = there_made c.self.inside.mapping c.make.new.self c.put_given.new.arena c.in_ok-object.object c.args.class c.in_ok-object.ensures.exists c.in_ok-object.ensures.fresh c.put_given.ensures.classes

@@ -1,4 +1,4 @@
-use Rattle.std.proofs.Common.{◌≡◌, ap, ◌∙◌, unwrap_or}
+use Rattle.std.proofs.Common.{ap, ◌∙◌, unwrap_or}
 use Rattle.sql_text.proofs.bases.Bases.uses_of.Goals as goal
 
 pub returns : goal.returns

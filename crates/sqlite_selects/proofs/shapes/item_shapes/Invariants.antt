@@ -1,6 +1,0 @@
-use Rattle.std.proofs.Common.{◌≡◌, map, take}
-use Rattle.sqlite_selects.specs.ItemShapes.{shape_of_item}
-use Rattle.sqlite_selects.proofs.shapes.item_shapes.Given as goal
-
-abbrev pub invariant-loop-item : goal.invariant-loop-item
-invariant-loop-item l = l.all.items ≡ map (λ item. shape_of_item l.schema l.select item.0) (take l.item-index l.select.items)

@@ -1,8 +1,0 @@
-use Rattle.std.proofs.Common.{◌∷◌, length, ap, ◌∙◌, arith}
-use Rattle.sqlite_selects.proofs.Items.{scope_end}
-use Rattle.sqlite_selects.proofs.shapes.scope_of.Goals as goal
-
-pub returns : goal.returns
-returns c =
-    c.loop-join.invariant
-    ∙ ap (λ ts. c.args.select.now.first.table ∷ ts) (scope_end c.args.select.now.joins c.loop-join.join-index (omega (arith, c.loop-join-test.false, ap length c.as_slice-join-items.ensures)))
