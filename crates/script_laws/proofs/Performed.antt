@@ -26,10 +26,10 @@ use Rattle.keeper_core.specs.Store.{Store}
 use Rattle.schema_core.specs.DependencyOrder.{table_ids}
 use Rattle.session_scopes.specs.Making.{first_given_fault, made_unless as object_unless, object_made, object_with}
 use Rattle.session_scopes.specs.Scoping.{session_nested}
-use Rattle.session_scopes.specs.SessionState.{AreThereStill, IsMadeOf, SameObjects, SessionState, with_notes}
-use Rattle.session_scopes.proofs.SessionLemmas.{goes_on, there_made, there_still}
+use Rattle.session_scopes.specs.SessionState.{AreThereStill, GoesOn, IsMadeOf, SessionState, with_notes}
+use Rattle.session_scopes.proofs.SessionLemmas.{there_made, there_still}
 use Rattle.session_calls.specs.Parts.{World}
-use Rattle.session_calls.proofs.Joining.{same_itself}
+use Rattle.session_calls.proofs.Joining.{goes_itself}
 use Rattle.session_acts.specs.Steps as acts
 use Rattle.session_acts.specs.Steps.{flush_whole}
 use Rattle.session_tables.specs.Dump.{Filled, scan_each, scan_one, scan_tables}
@@ -97,9 +97,9 @@ dump_hale w hale =
     let order : List TableId = table_ids w.own.mapping.schema in
     (keeps_each P scan_one [] order (all_scanned P order)).kept w.store hale
 
-dump_same : (w : World) → SameObjects w.own (scan_tables w).after.own
+dump_goes_on : (w : World) → GoesOn w.own (scan_tables w).after.own
 unfolding scan_tables by_own on_store
-dump_same w = same_itself w.own
+dump_goes_on w = goes_itself w.own
 
 -- ---- an object is made
 
@@ -198,15 +198,15 @@ module _ (law : CallsKeepWhole) (rules : Rules) (names : Bindings) where
   called : (call : Call) (w : World) → IsHale w → IsCallOf call w → IsHale (after_call rules call w)
   called call w hale of = law rules (call ∷ []) w hale (of, tt)
 
-  told_left : {A : Type 0} (tell : A → Answer) (m : World → Run World A) (w : World) → ((own : SessionState) (a : A) → IsBound own (tell a)) → AreBound (Configured w.own) names → IsHale (m w).after → SameObjects w.own (m w).after.own → IsLeft names (telling tell m w)
+  told_left : {A : Type 0} (tell : A → Answer) (m : World → Run World A) (w : World) → ((own : SessionState) (a : A) → IsBound own (tell a)) → AreBound (Configured w.own) names → IsHale (m w).after → GoesOn w.own (m w).after.own → IsLeft names (telling tell m w)
   told_left tell m w binds bound hale same = record {
     hale = told_after IsHale tell m w hale;
-    bound = told_after (λ v. AreBound (Configured v.own) names) tell m w (bound_same names w.own (m w).after.own (goes_on same) bound);
+    bound = told_after (λ v. AreBound (Configured v.own) names) tell m w (bound_same names w.own (m w).after.own same bound);
     told = λ a is. let from = told_answer tell m w a is in subst (IsBound (telling tell m w).after.own) from.2 (binds (telling tell m w).after.own from.0);
   }
 
   kept_left : {A : Type 0} (tell : A → Answer) (m : World → Run World A) (w : World) → ((own : SessionState) (a : A) → IsBound own (tell a)) → IsHale w → AreBound (Configured w.own) names → IsHale (m w).after → Keeps (Holds (IsKeyedSince w.own)) m → IsLeft names (telling tell m w)
-  kept_left tell m w binds before bound hale keeps = told_left tell m w binds bound hale (keeps.kept w (record { keyed = before.keyed; same = same_itself w.own })).same
+  kept_left tell m w binds before bound hale keeps = told_left tell m w binds bound hale (keeps.kept w (record { keyed = before.keyed; same = goes_itself w.own })).same
 
   -- an object is made, and bound
   made_left : (name : List ℕ) (class : ClassId) (cells : List (AttrNo × Value)) (w : World) → IsHale w → Asks w.own.mapping w.own.graph (resolved.New name class cells) → AreBound (Configured w.own) names → IsLeft names (program_of_resolved rules (resolved.New name class cells) w)
@@ -229,10 +229,10 @@ module _ (law : CallsKeepWhole) (rules : Rules) (names : Bindings) where
   nested_left name w hale bound =
       let m : World → Run World ℕ = acts.begin_nested in
       let tell : ℕ → Answer = λ handle. answer.Bind name (Saved handle) in
-      let same = ((keeps.begins_nested (IsKeyedSince w.own) (since_steps w.own)).kept w (record { keyed = hale.keyed; same = same_itself w.own })).same in
+      let same = ((keeps.begins_nested (IsKeyedSince w.own) (since_steps w.own)).kept w (record { keyed = hale.keyed; same = goes_itself w.own })).same in
       record {
         hale = told_after IsHale tell m w (called Call.BeginNested w hale tt);
-        bound = told_after (λ v. AreBound (Configured v.own) names) tell m w (bound_same names w.own (m w).after.own (goes_on same) bound);
+        bound = told_after (λ v. AreBound (Configured v.own) names) tell m w (bound_same names w.own (m w).after.own same bound);
         told = λ a is.
             let from = told_answer tell m w a is in
             let there : IsBound (m w).after.own (tell from.0) = (nested_drawn w from.0 from.1, tt) in
@@ -249,8 +249,8 @@ module _ (law : CallsKeepWhole) (rules : Rules) (names : Bindings) where
   unfolding ◌>>=◌
   link_left object relation w hale bound =
       let run : Run World Related = read_related object relation w in
-      let same = ((keeps.reads_links (IsKeyedSince w.own) (since_steps w.own) object relation).kept w (record { keyed = hale.keyed; same = same_itself w.own })).same in
-      shown_from run.events run.after run.answer (λ related session. answer.Thing (link_shown session.graph related)) (λ own related. tt) (called (Call.ReadLink object relation) w hale tt) (bound_same names w.own run.after.own (goes_on same) bound)
+      let same = ((keeps.reads_links (IsKeyedSince w.own) (since_steps w.own) object relation).kept w (record { keyed = hale.keyed; same = goes_itself w.own })).same in
+      shown_from run.events run.after run.answer (λ related session. answer.Thing (link_shown session.graph related)) (λ own related. tt) (called (Call.ReadLink object relation) w hale tt) (bound_same names w.own run.after.own same bound)
 
   as_it_was : (a : Answer) (w : World) → ((own : SessionState) → IsBound own a) → IsHale w → AreBound (Configured w.own) names → IsLeft names (give a w)
   unfolding give
@@ -270,15 +270,15 @@ module _ (law : CallsKeepWhole) (rules : Rules) (names : Bindings) where
     unfolding by_own
     line_left resolved.CreateAll asks = kept_left _ _ w (λ own a. tt) hale bound (called (Call.ChangeTables Create) w hale tt) (keeps.changes_tables P steps Create)
     line_left resolved.DropAll asks = kept_left _ _ w (λ own a. tt) hale bound (called (Call.ChangeTables Drop) w hale tt) (keeps.changes_tables P steps Drop)
-    line_left resolved.Dump asks = told_left answer.Tables scan_tables w (λ own a. tt) bound (dump_hale w hale) (dump_same w)
+    line_left resolved.Dump asks = told_left answer.Tables scan_tables w (λ own a. tt) bound (dump_hale w hale) (dump_goes_on w)
     line_left (resolved.New name class cells) asks = made_left name class cells w hale asks bound
     line_left (resolved.BeginNested name) asks = nested_left name w hale bound
     line_left (resolved.SetCell object attr value) asks =
         let inside = has_attribute object attr asks.0 asks.1 asks.2 in
         told_left _ _ w (λ own a. tt) bound (called (Call.Set object attr value) w hale (asks.1.0, inside))
-        (keeps.sets P steps object attr value rules w inside (record { keyed = hale.keyed; same = same_itself w.own })).same
+        (keeps.sets P steps object attr value rules w inside (record { keyed = hale.keyed; same = goes_itself w.own })).same
     line_left (resolved.ChangeLink owner relation change) asks =
-        told_left _ _ w (λ own a. tt) bound (called (Call.ChangeLink owner relation change) w hale asks) (keeps.links P steps owner relation change w asks (record { keyed = hale.keyed; same = same_itself w.own })).same
+        told_left _ _ w (λ own a. tt) bound (called (Call.ChangeLink owner relation change) w hale asks) (keeps.links P steps owner relation change w asks (record { keyed = hale.keyed; same = goes_itself w.own })).same
     line_left (resolved.Add object) asks = kept_left _ _ w (λ own a. tt) hale bound (called (Call.Add object) w hale asks) (keeps.adds P steps object)
     line_left (resolved.Delete object) asks = kept_left _ _ w (λ own a. tt) hale bound (called (Call.Delete object) w hale asks) (keeps.deletes P steps object)
     line_left (resolved.Show thing) asks = as_it_was (answer.Thing thing) w (λ own. tt) hale bound

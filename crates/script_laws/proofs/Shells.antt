@@ -11,7 +11,7 @@ use Rattle.keeper_core.specs.Store.{Store}
 use Rattle.keeper_core.specs.Keeping.{new_store}
 use Rattle.table_laws.specs.Legality.{Keeps}
 use Rattle.table_laws.proofs.EachJoin.{keeps_give, keeps_then}
-use Rattle.session_calls.proofs.Joining.{same_itself}
+use Rattle.session_calls.proofs.Joining.{goes_itself}
 use Rattle.session_calls.specs.Steps.{close}
 use Rattle.byte_streams.specs.Cutting.{Cut, Ended, Line, TooLong, next_cut}
 use Rattle.byte_streams.specs.Scripts.{lines_by, lines_from, lines_of}
@@ -56,7 +56,6 @@ use Rattle.script_laws.proofs.Built.{built_wider, class_built, configured_well, 
 use Rattle.script_laws.proofs.Late.{IsLateRun, IsLateSaid, said_late}
 use Rattle.script_laws.proofs.Performed.{IsBound, IsLeft, line_left}
 use Rattle.script_laws.proofs.Resolved.{asks_what_is_there, given}
-use Rattle.session_scopes.proofs.SessionLemmas.{goes_on}
 
 abbrev Shells : Type 0
 Shells = Beside ShellState
@@ -296,8 +295,8 @@ module _ (law : CallsKeepWhole) (rules : Rules) where
   closed_in count (Declaring mapping) w whole at = whole
   closed_in count (Configured session) w whole at =
       let v : Beside SessionState = record { own = session; store = w.store } in
-      let same = ((keeps.closes (IsKeyedSince session) (since_steps session)).kept v (record { keyed = at.0.keyed; same = same_itself session })).same in
-      ((law rules (Call.Close ∷ []) v at.0 (tt, tt), bound_same w.own.names session (close v).after.own (goes_on same) at.1), whole.1)
+      let same = ((keeps.closes (IsKeyedSince session) (since_steps session)).kept v (record { keyed = at.0.keyed; same = goes_itself session })).same in
+      ((law rules (Call.Close ∷ []) v at.0 (tt, tt), bound_same w.own.names session (close v).after.own same at.1), whole.1)
 
   closed_at : (count : ℕ) (stage : Stage) (w : Shells) → IsWholeShell count w → IsWholeShell count (close_session_at stage w).after
   unfolding give in_session

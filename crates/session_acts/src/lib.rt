@@ -22,3 +22,4 @@ pub use inner_scopes::{begin_savepoint, commit_transaction, release_many};
 pub use nesting::{begin_nested, commit_handle};
 pub use statements::{bulk, rows};
 pub use transaction::{commit, flush_now};
+pub use whole::flush_whole;

@@ -41,7 +41,7 @@ fn has_waiting_orphan(session: &Session) -> bool
 /// # Errors
 /// `NotBuilt` where an orphan waits, which leaves all as it was; then what a flush is refused for, and the innermost scope is rolled
 /// back then.
-pub(crate) fn flush_whole<K: Keeper>(session: &mut Session, keeper: &mut K) -> Result<(), Refusal>
+pub fn flush_whole<K: Keeper>(session: &mut Session, keeper: &mut K) -> Result<(), Refusal>
     requires in_step { IsInStep session.old (K.moment keeper.old) }
     requires inside { 0 < length session.old.frames.scopes }
     requires well { session.old.failed ≡ false }

@@ -6,3 +6,5 @@ pub mod Programs
 pub mod Handled
 pub mod Calls
 pub mod Since
+pub mod Legal
+pub mod Inside

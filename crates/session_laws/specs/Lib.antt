@@ -8,6 +8,7 @@ pub mod Health
 pub mod Held
 pub mod LinkCalls
 pub mod Links
+pub mod Loads
 pub mod OwnRows
 pub mod Plans
 pub mod Projects

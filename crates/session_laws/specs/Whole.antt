@@ -5,6 +5,7 @@ use Rattle.base_core.specs.declared.ids.AttrNo.{AttrNo}
 use Rattle.base_core.specs.declared.value.Value.{Value}
 use Rattle.class_types.specs.Rules.{Rules}
 use Rattle.class_mapping.specs.Mapped.{IsAttribute, IsClass, Mapped}
+use Rattle.table_laws.specs.Legality.{IsLegalStore}
 use Rattle.object_arena.specs.Fit.{IsFit}
 use Rattle.object_arena.specs.Graph.{IsObject, object_at}
 use Rattle.session_laws.specs.Graphs.{IsWellMapped}
@@ -50,6 +51,12 @@ AreCallsOf rules (call ∷ calls) world = IsCallOf call world × AreCallsOf rule
 -- over classes of any form, whatever is called, and whatever is answered, objects go on to fit
 abbrev pub CallsKeepFit : Type 0
 CallsKeepFit = (rules : Rules) (calls : List Call) (world : World) → IsKeyed world.own → AreCallsOf rules calls world → IsKeyed (after_calls rules calls world).own
+
+-- whatever is called, and whatever is answered, legal tables are left legal, those at the start of each scope too
+abbrev pub CallsKeepLegal : Type 0
+CallsKeepLegal =
+    (rules : Rules) (calls : List Call) (world : World) → IsLegalStore world.own.mapping.schema world.store → AreCallsOf rules calls world
+    → IsLegalStore (after_calls rules calls world).own.mapping.schema (after_calls rules calls world).store
 
 -- whatever is called, and whatever is answered, a healthy session that is whole stays so
 abbrev pub CallsKeepWhole : Type 0

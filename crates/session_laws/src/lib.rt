@@ -12,6 +12,7 @@ mod held_laws;
 mod legal_prefixes;
 mod link_call_laws;
 mod link_laws;
+mod load_laws;
 mod order;
 mod own_row_laws;
 mod project_laws;
@@ -48,6 +49,10 @@ pub use link_laws::{
     append_changes_both_sides, collections_repeat_no_member, links_alone_change,
     remove_changes_both_sides, set_changes_three_links,
 };
+pub use load_laws::{
+    loads_keep_health, loads_keep_objects_fitting, loads_keep_sound, loads_keep_whole,
+    loads_touch_the_noted, sessions_go_on_across_loads,
+};
 pub use order::{numbers_are_by_place, order_or_cycle, runs_are_longest, runs_are_whole};
 pub use own_row_laws::{objects_have_own_rows, unlinked_pairs_are_once};
 pub use project_laws::{
@@ -76,7 +81,7 @@ pub use told_flush_laws::{
     a_told_flush_is_its_run, an_accepted_flush_answers,
 };
 pub use whole_laws::{
-    a_new_session_is_whole, calls_keep_objects_fitting, calls_keep_whole,
+    a_new_session_is_whole, calls_keep_objects_fitting, calls_keep_tables_legal, calls_keep_whole,
     sessions_have_one_object_for_each_key,
 };
 pub use worked::{worked_cycles, worked_old, worked_plans, worked_runs};

@@ -4,7 +4,7 @@
 
 ghost use Rattle.class_mapping.specs.Mapped.{Mapped};
 ghost use Rattle.session_laws.specs.Graphs.{IsWellMapped};
-ghost use Rattle.session_laws.specs.Whole.{CallsKeepFit, CallsKeepWhole, IsHale, SessionsHaveOneForEachKey, new_world};
+ghost use Rattle.session_laws.specs.Whole.{CallsKeepFit, CallsKeepLegal, CallsKeepWhole, IsHale, SessionsHaveOneForEachKey, new_world};
 
 use crate::{a_flush_keeps_a_told_session_sound, an_answered_flush_of_a_told_session_leaves_sound};
 
@@ -19,6 +19,12 @@ pub fn a_new_session_is_whole()
 /// and their links the relationships of these.
 pub fn calls_keep_objects_fitting()
     ensures { CallsKeepFit }
+{}
+
+/// Whatever calls are made one after another, and whatever each answers, legal tables are left legal, those at the start of each scope in
+/// progress too: of the session's objects nothing is asked but that the calls name what is there.
+pub fn calls_keep_tables_legal()
+    ensures { CallsKeepLegal }
 {}
 
 /// Whatever calls are made one after another, of classes, attributes, relationships and objects that are there, and whatever each

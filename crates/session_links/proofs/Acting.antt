@@ -103,14 +103,14 @@ links_own graph mapped owner place relation (Append member) = appended_own graph
 links_own graph mapped owner place relation (Remove member) =
     if_own (lacks_member graph owner place member) (refusal.InvalidRequestError request.NotAMember) (Ok (remove_change graph owner place relation member)) (refl, refl) tt
 
-change_own : (graph : Graph) (mapped : Mapped) (owner : ObjId) (place : RelNo) (call : LinkCall) → IfErr (link_change graph mapped owner place call) IsOwn
+pub change_own : (graph : Graph) (mapped : Mapped) (owner : ObjId) (place : RelNo) (call : LinkCall) → IfErr (link_change graph mapped owner place call) IsOwn
 unfolding link_change
 change_own graph mapped owner place call =
     let relation : Relation = relation_of mapped (object_at graph owner).class place in
     ends_own (is_gone (object_at graph owner).state) (is_bad_end graph mapped relation.target (end_of call)) (links_by graph mapped owner place relation call) (links_own graph mapped owner place relation call)
 
 -- memory ran out, or it is told
-told_or : {A : Type 0} (e : Refusal) (told : Result A Refusal) → Refuses e told → (e ≡ Memory) ⊎ (told ≡ Err e)
+pub told_or : {A : Type 0} (e : Refusal) (told : Result A Refusal) → Refuses e told → (e ≡ Memory) ⊎ (told ≡ Err e)
 told_or refusal.Memory told is = inl refl
 told_or (refusal.InvalidRequestError kind) told is = inr is
 told_or (refusal.ArgumentError kind) told is = inr is

@@ -69,8 +69,11 @@ pub fn change_link<K: Keeper>(
     change_inside(session, owner, relation, call)
 }
 
-/// What is done in the transaction.
-fn change_inside(
+/// Changes one link of an object, in the transaction, as `change_link` does.
+///
+/// # Errors
+/// As `change_link`, without `PendingRollbackError`.
+pub fn change_inside(
     session: &mut Session,
     owner: ObjId,
     relation: RelNo,
@@ -91,11 +94,11 @@ fn change_inside(
     change_links(session, owner, relation, call, change)
 }
 
-/// Which links change.
+/// Which links of the session's objects change with one.
 ///
 /// # Errors
 /// As `relations::link_change`.
-fn change_of(
+pub fn change_of(
     session: &Session,
     owner: ObjId,
     relation: RelNo,
@@ -174,8 +177,8 @@ fn put_all(
 }
 
 /// The objects that come in along the side that is acted on, where a collection is joined or is not; but for those that are in
-/// the session already, since nothing becomes of them.
-fn coming_along(
+/// the session already, since nothing becomes of them. The only refusal is out of memory.
+pub fn coming_along(
     session: &Session,
     owner: ObjId,
     relation: RelNo,

@@ -6,5 +6,5 @@ mod places;
 mod putting;
 mod reading;
 
-pub use changing::change_link;
+pub use changing::{change_inside, change_link, change_of, coming_along};
 pub use reading::{Related, read_related};

@@ -1,3 +1,5 @@
 mod Falling
 pub mod SessionLemmas
 mod MakingLemmas
+pub mod GrownLemmas
+pub mod LoadLemmas

@@ -3,3 +3,4 @@ pub mod SessionState
 pub mod Scoping
 pub mod Changes
 pub mod Making
+pub mod Loads

@@ -2,11 +2,13 @@
 #![tactic(auto)]
 
 mod handles;
+mod load;
 mod making;
 mod session;
 mod step;
 
 pub use handles::Handles;
+pub use load::ObjectLoad;
 pub use making::{Given, put_given};
 pub use session::Session;
 pub use step::ObjectStep;

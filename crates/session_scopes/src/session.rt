@@ -1,25 +1,31 @@
 //! The session, and what becomes of it as scopes begin and end and single objects change.
 
-ghost use Rattle.std.specs.Prelude.{◌≡◌, ◌<◌, ◌≤◌, ◌+◌, ◌-◌, ◌++◌, [], None, true, false, length, map, IfOk, IfSome, OnErr, OnOk};
+ghost use Rattle.std.specs.Prelude.{◌≡◌, ◌<◌, ◌≤◌, ◌+◌, ◌-◌, ◌++◌, ◌⊎◌, [], None, true, false, length, map, IfErr, IfOk, IfSome, OnErr, OnOk};
 ghost use Rattle.base_core.specs.Counts.{one_more};
+ghost use Rattle.base_core.specs.declared.refusal.Refusal.TheVariants.{Memory};
+ghost use Rattle.keeper_core.specs.Beside.{moment_beside};
+ghost use Rattle.keeper_core.specs.Moment.{Runs};
 ghost use Rattle.keeper_core.specs.declared.notes.Note.TheVariants as note;
 ghost use Rattle.class_mapping.specs.Mapped.{IsAttribute, IsClass, attributes_of};
 ghost use Rattle.object_arena.specs.Fit.{IsFit};
 ghost use Rattle.object_arena.specs.Graph.{IsCell, IsObject, is_persistent, object_at, value_fault};
 ghost use Rattle.std.specs.List.{All, list_all};
 ghost use Rattle.keeper_core.specs.Alone.{IsQuiet};
+ghost use Rattle.load_rows.specs.Loading.{loading};
 ghost use Rattle.savepoints.specs.Scopes.{scope_limit};
 ghost use Rattle.session_scopes.specs.Changes as changes;
 ghost use Rattle.session_scopes.specs.Handles.{place_of_handle};
+ghost use Rattle.session_scopes.specs.Loads.{IsShownIn, on_load, with_loaded};
 ghost use Rattle.session_scopes.specs.Making as making;
 ghost use Rattle.session_scopes.specs.Scoping as scoping;
-ghost use Rattle.session_scopes.specs.SessionState.{AreAlikeButNotes, AreThereStill, IsMadeOf, SameObjects, depth_of, in_transaction, new_session, with_graph, with_note, with_warnings};
+ghost use Rattle.session_scopes.specs.SessionState.{AreAlikeButNotes, AreThereStill, IsInStep, IsKept, IsMadeOf, SameObjects, depth_of, in_transaction, new_session, with_graph, with_note, with_warnings};
 
+use crate::load::{append_notes, touch_filled};
 use crate::making::{copy_of, first_fault, put_given};
-use crate::{Handles, ObjectStep};
+use crate::{Handles, ObjectLoad, ObjectStep};
 use base_core::{AttrNo, ClassId, Copied, ObjId, Refusal, RequestKind, Value, Warning};
 use class_mapping::Mapping;
-use keeper_core::{Note, Notes, Sent};
+use keeper_core::{Keeper, Note, Notes, Sent, calls};
 use object_arena::{Arena, Cell, Object, State};
 use object_parts::is_of_kept_key;
 use object_records::{touch_for_mark, touch_for_value};
@@ -327,6 +333,74 @@ impl Session {
         ensures scopes { self.new.frames.scopes ≡ self.old.frames.scopes }
     {
         step.take(&self.mapping, &mut self.arena, &mut self.frames)
+    }
+
+    /// Makes a load over any keeper. Each object that it makes or fills is touched in the innermost scope directly after it, and what
+    /// it noted goes behind the session's notes; so it is where the load is refused too, for what it loaded before that.
+    ///
+    /// # Errors
+    /// What the load refuses, and `Memory`.
+    pub fn load<L: ObjectLoad, K: Keeper>(
+        &mut self,
+        keeper: &mut K,
+        load: L,
+    ) -> Result<L::Answer, Refusal>
+        requires in_step { IsInStep self.old (K.moment keeper.old) }
+        requires inside { 0 < length self.old.frames.scopes }
+        requires ready { L.is_ready load self.old.mapping self.old.graph }
+        ensures step { Runs (moment_beside K.moment) (λ a. a)
+            (on_load (L.program load self.old.mapping))
+            (self.old, keeper.old) result (self.new, keeper.new) }
+        ensures kept { IsKept result self.old self.new (K.moment keeper.new) }
+        ensures rest { self.new
+            ≡ record self.old {
+              graph = self.new.graph;
+              frames = self.new.frames;
+              notes = self.new.notes;
+            } }
+        ensures scopes { self.new.frames.scopes ≡ self.old.frames.scopes }
+        ensures found { IfOk result (L.is_found load self.new.mapping self.new.graph) }
+        ensures refuses { IfErr result
+            (λ e. (e ≡ Memory) ⊎ L.can_refuse load self.old.mapping e) }
+        ensures shown { IfErr result (λ e. (e ≡ Memory) ⊎ IsShownIn
+            (L.is_shown load self.old.mapping)
+            self.old (K.moment keeper.old) self.new (K.moment keeper.new) e) }
+    {
+        let mut notes = Notes::new(self.alloc);
+        let done = load.take(
+            self.alloc,
+            &self.mapping,
+            &mut self.arena,
+            keeper,
+            &mut notes,
+        );
+        let noted = self.take_in(notes);
+        match done {
+            Ok(answer) => match noted {
+                Ok(()) => Ok(answer),
+                Err(_full) => Err(Refusal::Memory),
+            },
+            Err(refusal) => {
+                if calls::ends_early(&refusal) {
+                    return Err(refusal);
+                }
+                match noted {
+                    Ok(()) => Err(refusal),
+                    Err(_full) => Err(Refusal::Memory),
+                }
+            }
+        }
+    }
+
+    /// What a load did is touched, and noted. Where memory runs out some may have been touched.
+    fn take_in(&mut self, notes: Notes) -> Result<(), AllocError>
+        ensures ok { OnOk result (self.new ≡ with_loaded (loading self.old.graph notes) self.old) }
+        ensures rest { self.new
+            ≡ record self.old { frames = self.new.frames; notes = self.new.notes } }
+        ensures scopes { self.new.frames.scopes ≡ self.old.frames.scopes }
+    {
+        touch_filled(&mut self.frames, &self.arena, notes.as_slice())?;
+        append_notes(self.alloc, &mut self.notes, notes)
     }
 
     /// The next add number, which is given now.

@@ -9,5 +9,6 @@ mod sending;
 mod writing;
 
 pub use asking::enter_bulk;
+pub use rereading::differs_from_expired;
 pub use run::send_plan;
 pub use sending::{bulk, rows};

@@ -156,12 +156,12 @@ fn comes_to_differ(mapping: &Mapping, object: &Object, table: TableId) -> bool
     ensures { result ≡ not (same_object object.now (spec.reread_of mapping.now table object.now)) }
 {
     let is_read = is_reread(mapping, object, table);
-    differs_if(object, is_read)
+    differs_from_expired(object, is_read)
 }
 
 /// Whether an object's record differs from that which is to be read again, where that is asked for.
 #[tactic(auto, using(crate::proofs::RereadLemmas::differences))]
-fn differs_if(object: &Object, is_read: bool) -> bool
+pub fn differs_from_expired(object: &Object, is_read: bool) -> bool
     ensures { result ≡ not (same_object object.now (spec.expired_if is_read object.now)) }
 {
     is_read && !is_expired(object)

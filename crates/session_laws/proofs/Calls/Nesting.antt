@@ -1,12 +1,12 @@
 -- Scopes that begin and end keep a session sound, where nothing is to be written at their beginning.
-use Rattle.std.proofs.Common.{◌≡◌, ℕ, ◌+◌, ◌-◌, ◌<◌, ◌≤◌, true, false, List, [], ◌∷◌, drop, length, get_or, map, zero, suc, None, Some, refl, sym, ap, ◌∙◌, subst, arith}
+use Rattle.std.proofs.Common.{◌≡◌, ℕ, ◌+◌, ◌-◌, ◌<◌, ◌≤◌, true, false, List, [], ◌∷◌, drop, length, get_or, zero, suc, None, Some, refl, sym, ap, ◌∙◌, subst, arith}
 use Rattle.keeper_core.specs.Calls as call
 use Rattle.class_mapping.specs.Mapped.{Mapped}
 use Rattle.object_arena.specs.declared.object.Cell.{Cell}
 use Rattle.object_arena.specs.declared.object.Object.{Object}
 use Rattle.object_arena.specs.declared.object.State.{State}
 use Rattle.object_arena.specs.declared.object.State.TheVariants.{Transient, Pending, Persistent, Deleted, Detached}
-use Rattle.object_arena.specs.Graph.{Graph, expired_cell, is_persistent, no_object}
+use Rattle.object_arena.specs.Graph.{Graph, is_persistent, no_object}
 use Rattle.object_arena.specs.Identity.{is_identified}
 use Rattle.keeper_core.specs.Store.{Store}
 use Rattle.keeper_core.specs.Programs.{◌>>=◌, give}

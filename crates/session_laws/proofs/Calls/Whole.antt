@@ -1,14 +1,12 @@
 -- What is asked before a flush keeps a session sound, and so do the ends of savepoints by a handle and the whole commit behind it.
-use Rattle.std.proofs.Common.{◌≡◌, ℕ, ◌+◌, ◌-◌, ◌<◌, false, length, zero, suc, Option, None, Some, refl, sym, ap, ◌∙◌, subst, arith}
-use Rattle.std.specs.Prelude.{◌==◌, if◌then◌else◌}
+use Rattle.std.proofs.Common.{◌≡◌, ℕ, ◌+◌, ◌-◌, ◌<◌, length, zero, suc, Option, None, Some, refl, sym, ap, ◌∙◌, subst, arith}
+use Rattle.std.specs.Prelude.{◌==◌}
 use Rattle.std.proofs.lemmas.List.Quantifiers.{position-Some}
 use Rattle.base_core.specs.declared.refusal.Refusal.{Refusal}
 use Rattle.expr_types.specs.declared.select.Bulk.{Bulk}
 use Rattle.keeper_core.specs.Calls as call
-use Rattle.object_arena.specs.Graph.{Graph}
 use Rattle.keeper_core.specs.Programs.{◌>>=◌, give}
 use Rattle.keeper_core.specs.Beside.{by_own, changes, on_store}
-use Rattle.savepoints.specs.declared.scope.Scope.{Scope}
 use Rattle.session_scopes.specs.Handles.{place_of_handle}
 use Rattle.session_scopes.specs.SessionState.{SessionState, depth_in}
 use Rattle.session_calls.specs.Parts.{World, checked}

@@ -3,7 +3,6 @@ use Rattle.std.proofs.Common.{◌≡◌, true, false, ◌==◌, List, [], sym, a
 use Rattle.std.specs.List.{AllByRecursion, flat_map}
 use Rattle.base_core.specs.declared.ids.ObjId.{ObjId}
 use Rattle.schema_core.specs.Declaration.{some_two}
-use Rattle.schema_core.specs.DependencyOrder.{is_among}
 use Rattle.schema_core.specs.Tables.{Tables}
 use Rattle.class_mapping.specs.Mapped.{Mapped}
 use Rattle.class_mapping.specs.Related.{AreRelated}

@@ -22,19 +22,19 @@ use Rattle.session_laws.proofs.Flushes.Kept.{IsKeptByWrites, plan_keeps}
 
 module _ (schema : Catalog) where
   -- a legal store beside a session whose mapping has this schema
-  record IsLegalWorld (w : World) : Type 0 where
-    own : w.own.mapping.schema ≡ schema
-    store : IsLegalStore schema w.store
+  pub record IsLegalWorld (w : World) : Type 0 where
+    pub own : w.own.mapping.schema ≡ schema
+    pub store : IsLegalStore schema w.store
 
-  noted_keeps : {A : Type 0} (m : Store → Run Store A) → KeepsLegal schema m → Keeps IsLegalWorld (on_store with_notes m)
+  pub noted_keeps : {A : Type 0} (m : Store → Run Store A) → KeepsLegal schema m → Keeps IsLegalWorld (on_store with_notes m)
   unfolding on_store
   noted_keeps m legal = record { kept = λ w p. record { own = p.own; store = legal.kept w.store p.store } }
 
-  changed_keeps : (f : SessionState → SessionState) → ((session : SessionState) → (f session).mapping ≡ session.mapping) → Keeps IsLegalWorld (changes f)
+  pub changed_keeps : (f : SessionState → SessionState) → ((session : SessionState) → (f session).mapping ≡ session.mapping) → Keeps IsLegalWorld (changes f)
   unfolding changes
   changed_keeps f same = record { kept = λ w p. record { own = ap (λ m. m.schema) (same w.own) ∙ p.own; store = p.store } }
 
-  chosen_keeps : {A : Type 0} (choose : SessionState → World → Run World A) → ((own : SessionState) → own.mapping.schema ≡ schema → Keeps IsLegalWorld (choose own)) → Keeps IsLegalWorld (by_own choose)
+  pub chosen_keeps : {A : Type 0} (choose : SessionState → World → Run World A) → ((own : SessionState) → own.mapping.schema ≡ schema → Keeps IsLegalWorld (choose own)) → Keeps IsLegalWorld (by_own choose)
   unfolding by_own
   chosen_keeps choose one = record { kept = λ w p. (one w.own p.own).kept w p }
 
@@ -70,7 +70,7 @@ module _ (schema : Catalog) where
 
   -- ---- a refusal
 
-  scope_keeps : (depth : ℕ) → KeepsLegal schema (roll_back_scope depth)
+  pub scope_keeps : (depth : ℕ) → KeepsLegal schema (roll_back_scope depth)
   scope_keeps depth = by (depth == 1)
     where
       by : (b : Bool) → KeepsLegal schema (if b then call.rollback else call.rollback_to (depth - 1))
@@ -85,7 +85,7 @@ module _ (schema : Catalog) where
       keeps_then IsLegalWorld (on_store with_notes (roll_back_scope (length own.frames.scopes))) (λ u. changes session_failed) (noted_keeps (roll_back_scope (length own.frames.scopes)) (scope_keeps (length own.frames.scopes)))
       (λ w u p answers. changed_keeps session_failed (λ session. refl)))
 
-  flush_keeps : Keeps IsLegalWorld flush
+  pub flush_keeps : Keeps IsLegalWorld flush
   unfolding flush
   flush_keeps = keeps_guarded IsLegalWorld write_objects give_up objects_keep give_up_keeps
 

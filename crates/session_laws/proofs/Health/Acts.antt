@@ -87,11 +87,11 @@ pub record IsInside (mapped : Mapped) (world : World) : Type 0 where
   pub inside : 0 < length world.own.frames.scopes
   pub same : world.own.mapping ≡ mapped
 
-some_scopes : (scopes : List Scope) → has_scope scopes ≡ true → 0 < length scopes
+pub some_scopes : (scopes : List Scope) → has_scope scopes ≡ true → 0 < length scopes
 some_scopes [] is = absurd cc
 some_scopes (scope ∷ scopes) is = omega arith
 
-open_scopes : (scopes : List Scope) → 0 < length scopes → has_scope scopes ≡ true
+pub open_scopes : (scopes : List Scope) → 0 < length scopes → has_scope scopes ≡ true
 open_scopes [] some = absurd (omega (arith, some))
 open_scopes (scope ∷ scopes) some = refl
 

@@ -1,5 +1,5 @@
 -- Tables that ascend are sorted.
-use Rattle.std.proofs.Common.{◌≡◌, ◌-◌, Bool, true, false, T, ◌&&◌, List, [], ◌∷◌, sym, ap}
+use Rattle.std.proofs.Common.{◌≡◌, Bool, true, false, T, ◌&&◌, List, [], ◌∷◌, sym, ap}
 use Rattle.std.specs.FinMap.Entries.{below_all, is_sorted}
 use Rattle.std.specs.List.{AllByRecursion}
 use Rattle.std.specs.List.Sorted.{IsStrictlySortedBy}

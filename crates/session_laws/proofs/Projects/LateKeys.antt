@@ -11,13 +11,12 @@ use Rattle.base_core.specs.declared.refusal.ArgumentKind.TheVariants.{DuplicateN
 use Rattle.schema_core.specs.declared.table.ColumnSpec.{ColumnSpec}
 use Rattle.schema_core.specs.declared.table.ForeignSpec.{ForeignSpec}
 use Rattle.schema_core.specs.declared.table.TableSpec.{TableSpec}
-use Rattle.schema_core.specs.Catalog.{Catalog, find_table, foreign_of, has_name, is_required, no_foreign, no_table, same_name, spec_of}
+use Rattle.schema_core.specs.Catalog.{find_table, foreign_of, has_name, is_required, no_foreign, no_table, same_name, spec_of}
 use Rattle.schema_core.specs.Declaration.{IsDeclared, declaration_fault, has_key, lists_unknown, names_unknown, repeats_name, shares_column, shares_one, some_list, some_two}
 use Rattle.schema_core.specs.DependencyOrder.{table_ids}
 use Rattle.schema_core.proofs.Names.{name_itself, same_names}
 use Rattle.class_types.specs.declared.mapped.Relation.{Relation}
 use Rattle.class_layouts.specs.declared.classes.Classes.{Classes}
-use Rattle.class_layouts.specs.declared.layout.Layout.{Layout}
 use Rattle.class_layouts.specs.Hierarchy.{line_of}
 use Rattle.class_layouts.specs.Columns.{columns_in}
 use Rattle.class_layouts.specs.Faults.{foreigns_in, foreigns_of}
@@ -27,14 +26,14 @@ use Rattle.class_sides.specs.Linking.{ends_on, key_or_none, near_key, near_or}
 use Rattle.class_sides.specs.Pairs.{is_plain, join_of}
 use Rattle.class_faults.specs.Faults.{has_fixed, is_fixed, is_unique_name, key_of, posts_badly}
 use Rattle.class_mapping.specs.Lines.{AreLines}
-use Rattle.class_mapping.specs.Mapped.{IsClass, IsValidMapping, Mapped, relations_of}
+use Rattle.class_mapping.specs.Mapped.{IsValidMapping, Mapped, relations_of}
 use Rattle.class_mapping.specs.Valid.{holds_of, is_joined, joins_ends}
 use Rattle.class_mapping.proofs.Having.{Has, all_from, all_of, any_has, from_filter, from_flat, from_map, from_numbered, has_at, named_alike, none_of, some_of, true_false}
 use Rattle.class_mapping.proofs.Lists.{and_left, and_right, or_left, or_right}
 use Rattle.class_mapping.proofs.RelatedKeys.{found_ends, held, or_rest, plain_found, same_table}
 use Rattle.class_mapping.proofs.RelatedLemmas.{Came, came, layouts_in, list_for, own_in, sides_in}
 use Rattle.class_mapping.proofs.ValidLemmas.{split}
-use Rattle.flush_order.specs.Cells.{is_in, late_name}
+use Rattle.flush_order.specs.Cells.{is_in}
 use Rattle.object_rows.specs.Late.{is_late, is_late_by, late_in, late_keys}
 use Rattle.object_arena.specs.Graph.{Graph}
 use Rattle.object_rows.specs.declared.prepared.Prepared.{Prepared}

@@ -1,11 +1,11 @@
 -- A part of a key stands only in a column of a foreign key.
-use Rattle.std.proofs.Common.{◌≡◌, ◌⊎◌, inl, inr, ℕ, zero, suc, ◌+◌, ◌-◌, ◌<◌, Bool, true, false, cond, not, ◌&&◌, ◌||◌, ◌==◌, nat_lt, List, [], ◌∷◌, length, map, get_or, Option, None, Some, is_none, is_some, refl, sym, subst, ap, ◌∙◌, zero-add, arith}
+use Rattle.std.proofs.Common.{◌≡◌, inl, inr, ℕ, zero, suc, ◌+◌, ◌-◌, Bool, true, false, cond, not, ◌&&◌, ◌==◌, nat_lt, List, [], ◌∷◌, length, map, get_or, Option, None, Some, is_none, is_some, refl, sym, subst, ap, ◌∙◌, zero-add, arith}
 use Rattle.std.proofs.lemmas.Bool.{eq-eqb, eqb-true}
 use Rattle.std.proofs.lemmas.List.Elements.{recursion_from_All}
 use Rattle.std.proofs.lemmas.List.Folds.{list_any_at}
 use Rattle.std.proofs.lemmas.List.Quantifiers.{position-Some}
 use Rattle.std.proofs.lemmas.Option.{same_Some, slice_get-get_or}
-use Rattle.std.specs.Prelude.{slice_get, unwrap_or, if◌then◌else◌}
+use Rattle.std.specs.Prelude.{slice_get, unwrap_or}
 use Rattle.std.specs.Cmp.Lexicographic.{pointwise}
 use Rattle.std.specs.List.{AllByRecursion, cons_option, enumerate_from, filter, flat_map, list_all, list_any, position}
 use Rattle.base_core.specs.declared.ids.ClassId.{ClassId}
@@ -24,13 +24,12 @@ use Rattle.schema_core.specs.Catalog.{Catalog, has_name, no_table, same_name, sp
 use Rattle.schema_core.specs.Tables.{value_or_null}
 use Rattle.class_types.specs.declared.declared.ClassSpec.{ClassSpec}
 use Rattle.class_types.specs.declared.mapped.Relation.{Relation}
-use Rattle.class_layouts.specs.declared.layout.Layout.{Layout}
 use Rattle.class_layouts.specs.Columns.{columns_in, named_table, own_table, table_in, tables_on}
 use Rattle.class_layouts.specs.Faults.{foreigns_in, foreigns_of}
 use Rattle.class_layouts.specs.Hierarchy.{line_of, no_class, root_in}
 use Rattle.class_sides.specs.Keys.{before_rank, is_inherited, is_tied, is_whole_key, refers_to, ties_to}
-use Rattle.class_mapping.specs.Lines.{AreLines, is_root_over, is_rooted, spec_at}
-use Rattle.class_mapping.specs.Mapped.{IsClass, IsValidMapping, Mapped, class_or, class_spec, layout_of, relations_of, root_of, root_table, table_or_none, tables_of}
+use Rattle.class_mapping.specs.Lines.{AreLines, is_root_over, is_rooted}
+use Rattle.class_mapping.specs.Mapped.{IsClass, IsValidMapping, Mapped, class_or, class_spec, relations_of, root_table, table_or_none, tables_of}
 use Rattle.class_mapping.specs.Valid.{extends_rightly, is_tied_in}
 use Rattle.class_mapping.proofs.Having.{Has, all_from, all_of, any_has, from_flat, from_map, has_at, has_filter, has_numbered, none_of, some_of, true_false}
 use Rattle.class_mapping.proofs.Lists.{and_left, and_right, some_is}

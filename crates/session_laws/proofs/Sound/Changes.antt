@@ -44,7 +44,7 @@ scopes_kept mapped old new before after most long roots later (scope ∷ scopes)
   scopes_kept mapped old new before after most long roots later scopes starts (omega (arith, few)) sound.1,
 )
 
-rest_inside : (scopes : List Scope) (graph : Graph) → has_scope scopes ≡ true → RestIf scopes graph
+pub rest_inside : (scopes : List Scope) (graph : Graph) → has_scope scopes ≡ true → RestIf scopes graph
 rest_inside [] graph is = absurd cc
 rest_inside (scope ∷ scopes) graph is = tt
 

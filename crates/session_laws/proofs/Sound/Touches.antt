@@ -19,7 +19,8 @@ touch_scopes : (graph : Graph) (object : ObjId) (frames : Framed) → (touch gra
 unfolding touch
 touch_scopes graph object frames = touch_long frames.scopes graph object frames
 
-all_scopes : (graph : Graph) (ids : List ObjId) (frames : Framed) → (frames_with_touched graph ids frames).scopes ≡ frames.scopes
+-- however many are touched, the scopes stay
+pub all_scopes : (graph : Graph) (ids : List ObjId) (frames : Framed) → (frames_with_touched graph ids frames).scopes ≡ frames.scopes
 all_scopes graph [] frames = refl
 all_scopes graph (id ∷ ids) frames = all_scopes graph ids (touch graph id frames) ∙ touch_scopes graph id frames
 
@@ -28,10 +29,11 @@ pub between_scopes : (old new : Graph) (frames : Framed) → (frames_touched_bet
 unfolding frames_touched_between
 between_scopes old new frames = all_scopes old (filter (differs old new) (map (λ placed. id_of_place placed.0) (enumerate_from 0 old.objects))) frames
 
-as_deep : (graph : Graph) (object : ObjId) (frames : Framed) (depth : ℕ) → depth ≤ length frames.scopes → depth ≤ length (touch graph object frames).scopes
+pub as_deep : (graph : Graph) (object : ObjId) (frames : Framed) (depth : ℕ) → depth ≤ length frames.scopes → depth ≤ length (touch graph object frames).scopes
 as_deep graph object frames depth high = omega (arith, high, ap length (touch_scopes graph object frames))
 
-touched_stays : (graph : Graph) (ids : List ObjId) (frames : Framed) (depth place : ℕ) → 1 ≤ depth → depth ≤ length frames.scopes → is_touched frames depth place ≡ true → is_touched (frames_with_touched graph ids frames) depth place ≡ true
+-- what was touched stays so
+pub touched_stays : (graph : Graph) (ids : List ObjId) (frames : Framed) (depth place : ℕ) → 1 ≤ depth → depth ≤ length frames.scopes → is_touched frames depth place ≡ true → is_touched (frames_with_touched graph ids frames) depth place ≡ true
 touched_stays graph [] frames depth place low high is = is
 touched_stays graph (id ∷ ids) frames depth place low high is =
     let deep = as_deep graph id frames depth high in

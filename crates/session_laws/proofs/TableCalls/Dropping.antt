@@ -37,7 +37,7 @@ unfolding ◌>>=◌ give
 turn_after m next w a is = rw is refl
 
 -- beside a session tables are dropped as in a store alone
-dropped_store : (order : List TableId) (w : World) → (each (change_one Drop) tt order w).after.store ≡ (each drop_one tt order w.store).after
+pub dropped_store : (order : List TableId) (w : World) → (each (change_one Drop) tt order w).after.store ≡ (each drop_one tt order w.store).after
 unfolding each change_one drop_one on_store give
 dropped_store [] w = refl
 dropped_store (table ∷ order) w =

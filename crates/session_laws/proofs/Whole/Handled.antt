@@ -63,9 +63,9 @@ abbrev pub HasHandles : SessionState → Type 0
 HasHandles own = length own.drawn.handles ≡ depth_of own - 1
 
 -- so it is, and no rollback is awaited
-record IsCalm (own : SessionState) : Type 0 where
-  handles : HasHandles own
-  well : own.failed ≡ false
+pub record IsCalm (own : SessionState) : Type 0 where
+  pub handles : HasHandles own
+  pub well : own.failed ≡ false
 
 -- so it is in the transaction
 record IsDeep (own : SessionState) : Type 0 where
@@ -153,7 +153,7 @@ begun_led : (v : World) → Handled v → v.own.failed ≡ false → IsLed Handl
 unfolding by_own
 begun_led v handled well = let done = begun_calm (in_transaction v.own) v refl well handled in record { here = done.handles; told = λ u is. done }
 
-enter_calm : (w : World) → Handled w → IsLed Handled (Holds IsCalm) (enter w)
+pub enter_calm : (w : World) → Handled w → IsLed Handled (Holds IsCalm) (enter w)
 unfolding enter
 enter_calm w handled =
     led_then Handled (λ v. Handled v × (v.own.failed ≡ false)) (Holds IsCalm) (checked pending_fault) (λ u. by_own (λ session. begin_unless (in_transaction session))) w
@@ -380,7 +380,7 @@ module _ (P : SessionState → Type 0) (again : (notes : List Note) (own : Sessi
       let v : World = (asks w).after in
       led_then Handled (Holds P) Handled flush_whole (λ u. act) v (whole_led v p) (λ u q. let done = later (flush_whole v).after q in record { here = done; told = λ a is. done }))).here
 
-calm_led : (w : World) → IsCalm w.own → IsLed Handled (Holds IsCalm) (flush_whole w)
+pub calm_led : (w : World) → IsCalm w.own → IsLed Handled (Holds IsCalm) (flush_whole w)
 calm_led w calm = whole_led IsCalm calm_noted calm_with (λ own c. c) w calm
 
 now_led : (w : World) → Handled w → IsLed Handled (Holds IsCalm) (flush_now w)

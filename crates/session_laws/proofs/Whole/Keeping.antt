@@ -81,7 +81,7 @@ module _ (P : SessionState → Type 0) (notes : (events : List Event) (own : Ses
   unfolding change_one
   one_table change table u = joined (on_store with_notes (change_in_store change table)) (λ done. give tt) (noted (change_in_store change table)) (λ done. keeps_give (Holds P) tt)
 
-  each_table : (change : TableChange) (order : List TableId) → AllByRecursion (λ table. (u : Unit {0}) → Keeps (Holds P) (change_one change table u)) order
+  pub each_table : (change : TableChange) (order : List TableId) → AllByRecursion (λ table. (u : Unit {0}) → Keeps (Holds P) (change_one change table u)) order
   each_table change [] = tt
   each_table change (table ∷ order) = (one_table change table, each_table change order)
 

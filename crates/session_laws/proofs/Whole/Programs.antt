@@ -14,15 +14,19 @@ use Rattle.expr_types.specs.declared.select.Select.{Select}
 use Rattle.keeper_core.specs.Calls as call
 use Rattle.table_laws.specs.Legality.{Keeps}
 use Rattle.table_laws.proofs.EachJoin.{keeps_give, keeps_guarded, keeps_refuse}
+use Rattle.load_filling.specs.Growing.{Grows}
+use Rattle.load_rows.specs.Loading.{Loading}
+use Rattle.object_arena.specs.Fit.{IsFit}
 use Rattle.object_arena.specs.Graph.{Graph, object_at, value_fault}
 use Rattle.object_rows.specs.declared.prepared.Prepared.{Prepared}
 use Rattle.keeper_core.specs.Programs.{Event, Run, ◌>>=◌, give}
-use Rattle.keeper_core.specs.Beside.{by_own, changes, on_own, on_store}
+use Rattle.keeper_core.specs.Beside.{Beside, by_own, changes, on_own, on_store}
 use Rattle.keeper_core.specs.Store.{Store}
 use Rattle.relations.specs.declared.calls.LinkCall.{LinkCall}
 use Rattle.sql_semantics.specs.Applied.{table_of}
 use Rattle.session_scopes.specs.Changes.{cell_read, deletion_marked, value_put}
 use Rattle.session_scopes.specs.Handles.{place_of_handle}
+use Rattle.session_scopes.specs.Loads.{on_load, with_loaded}
 use Rattle.session_scopes.specs.Scoping.{session_begun, session_closed, session_committed, session_failed, session_nested, session_released, session_restored, session_rolled_back}
 use Rattle.session_scopes.specs.SessionState.{SessionState, in_transaction, with_notes, with_warnings}
 use Rattle.session_calls.specs.Parts.{World, checked, go_back, roll_back_scope}
@@ -34,6 +38,7 @@ use Rattle.session_links.specs.Linking.{change_fault, session_changed}
 use Rattle.session_links.specs.Reading.{link_read}
 use Rattle.session_links.specs.Steps.{change_inside, change_link, read_related}
 use Rattle.session_laws.specs.LinkCalls.{IsLinkCall}
+use Rattle.session_laws.specs.Loads.{loading_of}
 use Rattle.session_statements.specs.Rewriting.{session_reread}
 use Rattle.session_statements.specs.Steps as statements
 use Rattle.session_tables.specs.declared.tables.TableChange.{TableChange}
@@ -65,6 +70,7 @@ pub record AreSteps (P : SessionState → Type 0) : Type 0 where
   pub linked : (owner : ObjId) (place : RelNo) (call : LinkCall) (own : SessionState) → IsLinkCall own.mapping own.graph owner place call → P own → P (session_changed owner place call own)
   pub marked : (object : ObjId) (own : SessionState) → P own → P (deletion_marked object own).after
   pub put : (object : ObjId) (attr : AttrNo) (value : Value) (own : SessionState) → IsAttribute own.mapping (object_at own.graph object).class attr → value_fault own.mapping (object_at own.graph object) attr value ≡ None → P own → P (value_put object attr value own).after
+  pub loaded : (after : Loading) (own : SessionState) → IsFit own.mapping after.graph → Grows own.graph after.graph → P own → P (with_loaded after own)
 
 module _ (P : SessionState → Type 0) (steps : AreSteps P) where
   -- ---- how programs are put together
@@ -125,6 +131,11 @@ module _ (P : SessionState → Type 0) (steps : AreSteps P) where
   pub closes : Keeps (Holds P) close
   closes = keeping.closes P steps.notes steps.closed
 
+  -- a load that leaves objects that fit, those that there were among them
+  pub loads : {A : Type 0} (m : Beside Loading → Run (Beside Loading) A) (w : World) → IsFit w.own.mapping (m (loading_of w)).after.own.graph → Grows w.own.graph (m (loading_of w)).after.own.graph → P w.own → P (on_load m w).after.own
+  unfolding on_load
+  loads m w fit grows has = steps.loaded (m (loading_of w)).after.own w.own fit grows has
+
   -- ---- rollbacks
 
   goes_back : (depth : ℕ) → Keeps (Holds P) (go_back depth)
@@ -164,7 +175,7 @@ module _ (P : SessionState → Type 0) (steps : AreSteps P) where
       (λ own. joined (on_store with_notes (roll_back_scope (length own.frames.scopes))) (λ u. changes session_failed) (noted (roll_back_scope (length own.frames.scopes)))
       (λ u. changed session_failed steps.failed))
 
-  flushes_whole : Keeps (Holds P) flush_whole
+  pub flushes_whole : Keeps (Holds P) flush_whole
   unfolding flush_whole flush
   flushes_whole = joined (checked orphan_fault) (λ u. flush) (asked orphan_fault) (λ u. keeps_guarded (Holds P) write_objects give_up objects_written gives_up)
 

@@ -17,7 +17,8 @@ use Rattle.keeper_core.specs.Beside.{on_own}
 use Rattle.session_parts.specs.Ends.{object_committed, object_left, object_unmarked}
 use Rattle.session_scopes.specs.Changes.{changed_unless, delete_fault, deletion_marked, value_put}
 use Rattle.session_scopes.specs.Scoping.{session_restored}
-use Rattle.session_scopes.specs.SessionState.{SameObjects, SessionState}
+use Rattle.session_scopes.specs.SessionState.{GoesOn, SameObjects, SessionState}
+use Rattle.session_scopes.proofs.SessionLemmas.{goes_more, goes_on}
 use Rattle.session_calls.specs.Parts.{World}
 use Rattle.session_calls.proofs.Joining.{same_itself, same_more}
 use Rattle.session_objects.specs.Taking.{coming_objects, session_added, session_joined}
@@ -25,6 +26,7 @@ use Rattle.session_statements.specs.Rewriting.{graph_reread, is_reread, reread_o
 use Rattle.session_objects.specs.ValueSteps.{given_fault, made_unless, valid_made}
 use Rattle.session_laws.proofs.Health.Fits.{classes_written}
 use Rattle.session_laws.specs.Whole.{IsKeyed}
+use Rattle.session_laws.proofs.Loads.Sessions.{loaded_goes_on, loaded_keyed}
 use Rattle.session_laws.proofs.Whole.Keyed.{added_keyed, begun_keyed, closed_keyed, committed_keyed, flushed_keyed, if_class, made_keyed, mark_keyed, nested_keyed, released_keyed, reread_keyed, restored_keyed, value_keyed}
 use Rattle.session_laws.proofs.Whole.Linked.{changed_keyed, changed_same, joined_same, regraphed, with_one}
 use Rattle.session_laws.proofs.Whole.Programs.{AreSteps}
@@ -53,6 +55,7 @@ keyed_steps = record {
   linked = changed_keyed;
   marked = mark_keyed;
   put = value_keyed;
+  loaded = loaded_keyed;
 }
 
 made_by : (fault : Option Refusal) (class : ClassId) (given : List (AttrNo × Value)) (own : SessionState) → IsClass own.mapping class → AllByRecursion (λ (one : AttrNo × Value). IsAttribute own.mapping class one.0) given → IsKeyed own → IsKeyed (made_unless fault class given own).after
@@ -65,12 +68,12 @@ make_keyed rules class given w declared attributes keyed = made_by (given_fault 
 
 -- ---- the objects are there still
 
--- the objects fit, and all that were there at first are there still
+-- the objects fit, and all that were there at first are there still, of their classes
 pub record IsKeyedSince (first own : SessionState) : Type 0 where
   pub keyed : IsKeyed own
-  pub same : SameObjects first own
+  pub same : GoesOn first own
 
-added_same : (object : ObjId) (own : SessionState) → SameObjects own (session_added object own)
+pub added_same : (object : ObjId) (own : SessionState) → SameObjects own (session_added object own)
 added_same object own =
     let joined : SessionState = session_joined (coming_objects own.mapping own.graph object) own in
     same_more (joined_same (coming_objects own.mapping own.graph object) own) (with_one joined object (object_unmarked (object_at joined.graph object)) refl)
@@ -93,15 +96,15 @@ put_same object attr value own =
     unless_same _ (with_value own.graph object attr value) own (classes_set own.graph (with_value own.graph object attr value) object new refl refl)
 
 module _ (first : SessionState) where
-  goes_on : (own now : SessionState) → IsKeyedSince first own → (IsKeyed own → IsKeyed now) → SameObjects own now → IsKeyedSince first now
-  goes_on own now since keeps same = record { keyed = keeps since.keyed; same = same_more since.same same }
+  went_on : (own now : SessionState) → IsKeyedSince first own → (IsKeyed own → IsKeyed now) → SameObjects own now → IsKeyedSince first now
+  went_on own now since keeps same = record { keyed = keeps since.keyed; same = goes_more since.same (goes_on same) }
 
   stays : (own now : SessionState) → IsKeyedSince first own → (IsKeyed own → IsKeyed now) → now.mapping ≡ own.mapping → now.graph ≡ own.graph → own.drawn.drawn ≤ now.drawn.drawn → IsKeyedSince first now
-  stays own now since keeps mapping graph drawn = goes_on own now since keeps (record { mapping = mapping; classes = rw graph refl; drawn = drawn })
+  stays own now since keeps mapping graph drawn = went_on own now since keeps (record { mapping = mapping; classes = rw graph refl; drawn = drawn })
 
   restored_since : (depth : ℕ) (own : SessionState) → IsKeyedSince first own → IsKeyedSince first (session_restored depth own)
   restored_since depth own since =
-      goes_on own (session_restored depth own) since (restored_keyed depth own)
+      went_on own (session_restored depth own) since (restored_keyed depth own)
       (record { mapping = refl; classes = (restored_refit depth own.frames own.graph own.mapping since.keyed.fit since.keyed.keys).same; drawn = omega arith })
 
   pub since_steps : AreSteps (IsKeyedSince first)
@@ -116,14 +119,15 @@ module _ (first : SessionState) where
         let inner : SessionState = session_restored (length own.frames.scopes) own in
         stays inner _ (restored_since (length own.frames.scopes) own since) (same_keys inner _ refl refl refl) refl refl (omega arith);
     rolled = λ count own since. stays own _ since (keyed_steps.rolled count own) refl refl (omega arith);
-    committed = λ own since. goes_on own _ since (committed_keyed own) (record { mapping = refl; classes = classes_all object_committed own.graph (λ o. committed_class o.state o); drawn = omega arith });
-    closed = λ own since. goes_on own _ since (closed_keyed own) (record { mapping = refl; classes = classes_all object_left own.graph (λ o. refl); drawn = omega arith });
+    committed = λ own since. went_on own _ since (committed_keyed own) (record { mapping = refl; classes = classes_all object_committed own.graph (λ o. committed_class o.state o); drawn = omega arith });
+    closed = λ own since. went_on own _ since (closed_keyed own) (record { mapping = refl; classes = classes_all object_left own.graph (λ o. refl); drawn = omega arith });
     flushed = λ prepared none rows keys own since.
-        goes_on own _ since (flushed_keyed prepared none rows keys own) (regraphed own (graph_flushed own.mapping prepared rows keys own.graph) (classes_written (written_with own.mapping prepared rows keys own.graph)));
+        went_on own _ since (flushed_keyed prepared none rows keys own) (regraphed own (graph_flushed own.mapping prepared rows keys own.graph) (classes_written (written_with own.mapping prepared rows keys own.graph)));
     reread = λ table own since.
-        goes_on own _ since (reread_keyed table own) (regraphed own (graph_reread own.mapping table own.graph) (classes_all (reread_of own.mapping table) own.graph (λ o. if_class (is_reread own.mapping table o) o)));
-    added = λ object own since. goes_on own _ since (added_keyed object own) (added_same object own);
-    linked = λ owner place call own on since. goes_on own _ since (changed_keyed owner place call own on) (changed_same owner place call own on since.keyed);
-    marked = λ object own since. goes_on own _ since (mark_keyed object own) (marked_same object own);
-    put = λ object attr value own inside none since. goes_on own _ since (value_keyed object attr value own inside none) (put_same object attr value own);
+        went_on own _ since (reread_keyed table own) (regraphed own (graph_reread own.mapping table own.graph) (classes_all (reread_of own.mapping table) own.graph (λ o. if_class (is_reread own.mapping table o) o)));
+    added = λ object own since. went_on own _ since (added_keyed object own) (added_same object own);
+    linked = λ owner place call own on since. went_on own _ since (changed_keyed owner place call own on) (changed_same owner place call own on since.keyed);
+    marked = λ object own since. went_on own _ since (mark_keyed object own) (marked_same object own);
+    put = λ object attr value own inside none since. went_on own _ since (value_keyed object attr value own inside none) (put_same object attr value own);
+    loaded = λ after own fit grows since. record { keyed = loaded_keyed after own fit grows since.keyed; same = goes_more since.same (loaded_goes_on after own grows) };
   }

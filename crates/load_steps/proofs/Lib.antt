@@ -1,0 +1,12 @@
+pub mod Keeping
+pub mod Lasting
+pub mod Rows
+pub mod Lazily
+pub mod Together
+pub mod Queries
+pub mod Joined
+pub mod Noted
+pub mod Based
+pub mod Loaded
+pub mod Filling
+pub mod Loads

@@ -1,0 +1,6 @@
+use Rattle.query_names.proofs.Selectable.{selectable}
+use Rattle.query_names.proofs.queries.resolve_query.Goals as goal
+
+pub returns-clause-selectable : goal.returns-clause-selectable
+returns-clause-selectable c =
+    selectable c.args.mapping.now c.schema-configured.ensures.configured.hierarchies c.args.written.now c.plain_query.result c.plain_query.ensures.told c.plain_query.ensures.class c.plain_query.ensures.options c.plain_query.ensures.plain

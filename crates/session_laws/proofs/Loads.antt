@@ -1,0 +1,4 @@
+pub mod Touched
+pub mod Objects
+pub mod Sessions
+pub mod Laws

@@ -1,0 +1,55 @@
+-- A whole session goes on in its transaction, whatever is answered.
+use Rattle.std.proofs.Common.{subst}
+use Rattle.base_core.specs.declared.ids.ObjId.{ObjId}
+use Rattle.base_core.specs.declared.ids.RelNo.{RelNo}
+use Rattle.keeper_core.specs.Beside.{Beside}
+use Rattle.keeper_core.specs.Programs.{Run}
+use Rattle.load_rows.specs.Loading.{Loading}
+use Rattle.relations.specs.declared.calls.LinkCall.{LinkCall}
+use Rattle.session_scopes.specs.Loads.{on_load}
+use Rattle.session_scopes.specs.SessionState.{GoesOn, SessionState}
+use Rattle.session_calls.specs.Parts.{World}
+use Rattle.session_calls.specs.Steps.{enter}
+use Rattle.session_calls.proofs.Joining.{goes_itself}
+use Rattle.session_links.specs.Steps.{change_inside, change_link}
+use Rattle.session_acts.specs.Steps.{flush_whole}
+use Rattle.session_laws.specs.LinkCalls.{IsLinkCall}
+use Rattle.session_laws.specs.Whole.{IsHale}
+use Rattle.session_laws.specs.Loads.{IsLoad}
+use Rattle.session_laws.proofs.Health.Acts.{FlushLeavesSound, FlushWritesAll, IsLed}
+use Rattle.session_laws.proofs.Whole.Inside.{IsWithin, change_within, enter_within, flush_within, goes_within, load_within}
+use Rattle.session_laws.proofs.Whole.Programs as keyed
+use Rattle.session_laws.proofs.Whole.Since.{IsKeyedSince, since_steps}
+
+-- a whole session that has gone on from a first one
+pub record IsGoing (first : SessionState) (w : World) : Type 0 where
+  pub hale : IsHale w
+  pub goes : GoesOn first w.own
+
+pub going_of : {first : SessionState} {w : World} → IsWithin first w → IsGoing first w
+going_of it = record { hale = it.hale; goes = it.goes }
+
+since_of : (first : SessionState) (w : World) → IsWithin first w → IsKeyedSince first w.own
+since_of first w it = record { keyed = it.hale.keyed; same = it.goes }
+
+-- what leaves a whole session, and one that has gone on
+led_going : {A : Type 0} (first : SessionState) (run : Run World A) → IsLed IsHale (IsWithin first) run → IsKeyedSince first run.after.own → IsLed (IsGoing first) (IsWithin first) run
+led_going first run led since = record { here = record { hale = led.here; goes = since.same }; told = led.told }
+
+pub enter_going : (w : World) → IsHale w → IsLed (IsGoing w.own) (IsWithin w.own) (enter w)
+enter_going w hale = led_going w.own (enter w) (enter_within w hale) ((keyed.enters (IsKeyedSince w.own) (since_steps w.own)).kept w (record { keyed = hale.keyed; same = goes_itself w.own }))
+
+pub flush_going : FlushLeavesSound → FlushWritesAll → (first : SessionState) (w : World) → IsWithin first w → IsLed (IsGoing first) (IsWithin first) (flush_whole w)
+flush_going keeps answers first w it = led_going first (flush_whole w) (flush_within keeps answers first w it) ((keyed.flushes_whole (IsKeyedSince first) (since_steps first)).kept w (since_of first w it))
+
+pub load_going : {A : Type 0} (m : Beside Loading → Run (Beside Loading) A) (first : SessionState) (w : World) → IsWithin first w → IsLoad m w → IsLed (IsGoing first) (IsWithin first) (on_load m w)
+load_going m first w it load = led_going first (on_load m w) (load_within m first w it load) (keyed.loads (IsKeyedSince first) (since_steps first) m w load.loads.fit load.loads.grows (since_of first w it))
+
+pub change_going : (owner : ObjId) (place : RelNo) (call : LinkCall) (first : SessionState) (w : World) → IsLinkCall w.own.mapping w.own.graph owner place call → IsWithin first w → IsGoing first (change_inside owner place call w).after
+unfolding change_link
+change_going owner place call first w on it =
+    let since : IsKeyedSince first (change_link owner place call w).after.own = keyed.links (IsKeyedSince first) (since_steps first) owner place call w on (since_of first w it) in
+    record {
+      hale = change_within owner place call first w on it;
+      goes = subst (λ (v : World). GoesOn first v.own) (goes_within (λ u. change_inside owner place call) first w it) since.same;
+    }

@@ -1,0 +1,4 @@
+pub mod Bridge
+pub mod Laws
+pub mod Going
+pub mod Readings

@@ -1,0 +1,14 @@
+use Rattle.session_loads.proofs.LoadLemmas.{grows_classes, stays_at}
+use Rattle.session_loads.proofs.loads.RefreshCellsObjectLoad.take.Goals as goal
+
+pub refresh-requires : goal.refresh-requires
+refresh-requires g c = record { fit = c.requires.fit; object = c.requires.ready.0; persistent = c.requires.ready.1; ready = record { attached = c.requires.attached; inside = c.requires.inside } }
+
+pub returns-clause-step : goal.returns-clause-step
+returns-clause-step g c = c.refresh.ensures.step
+
+pub returns-clause-depth : goal.returns-clause-depth
+returns-clause-depth g c = stays_at (g.K.Keeper.moment c.args.keeper.now) (g.K.Keeper.moment c.refresh.new.keeper) c.refresh.result c.refresh.ensures.stays
+
+pub returns-clause-grows : goal.returns-clause-grows
+returns-clause-grows g c = grows_classes c.args.arena.now c.refresh.new.arena c.refresh.ensures.classes
