@@ -1,5 +1,5 @@
 #!/usr/bin/env python3
-"""Asks SQLite for the rows of the selects in crates/sqla/stdin, and tells each whose stored answer differs.
+"""Asks SQLite for the rows of the selects in scripts/selects.txt, and tells each whose answer differs there.
 
     python3 tools/ask_rows.py              # at the top of the repository; the module sqlite3 has the store
 
@@ -7,12 +7,12 @@ Asked is every line `rows SELECT` whose answer is rows; its text becomes one of 
 A select without an order is compared without one. What is refused is not asked; SQLite takes no `having` without an aggregate.
 """
 
-import pathlib
 import re
 import sqlite3
 import sys
 
-FOLDER = pathlib.Path(__file__).resolve().parent.parent / "crates" / "sqla"
+from script_cases import cases
+
 TOKEN = re.compile(r"""\s*(x'[0-9A-Fa-f]*'|'(?:[^']|'')*'|"(?:[^"]|"")*"|[A-Za-z_]\w*|\d+|==|!=|<=|>=|\|\||.)""")
 SIGNS = {"==": "=", "!=": "<>", "ilike": "like"}
 
@@ -47,27 +47,19 @@ def values(text):
     )
 
 
-def answers(lines):
-    """The rows that are stored for each line of the script by its number, as far as they are told apart."""
-    script = (FOLDER / "stdin").read_text().split("\n")
-    asking = [n for n, line in enumerate(script, 1) if line.startswith("rows ")]
-    refused = {int(m[1]) for line in lines if (m := re.match(r"error (\d+): ", line))}
-    rows, told = [], []
-    for line in lines:
-        if line.startswith("("):
-            rows.append(values(line))
-        elif m := re.fullmatch(r"rows (\d+)", line):
-            assert int(m[1]) == len(rows), line
-            told.append(rows)
-            rows = []
-    return script, dict(zip([n for n in asking if n not in refused], told, strict=True))
+def rows_of(answer):
+    """The rows that a line answers; none where it is refused."""
+    if not answer or not re.fullmatch(r"rows \d+", answer[-1]):
+        return None
+    return [values(line) for line in answer[:-1]]
 
 
 def main():
-    script, stored = answers((FOLDER / "stdout").read_text().split("\n"))
+    script = cases("selects.txt")[0].lines
     database = sqlite3.connect(":memory:")
-    made, tables, bad = {}, {}, 0
-    for number, line in enumerate(script, 1):
+    made, tables, asked, bad, is_over = {}, {}, 0, 0, False
+    for number, (line, answer) in enumerate(script, 1):
+        is_over = is_over or line.startswith("# a failed flush")
         if m := re.match(r"table (\w+)", line):
             columns = []
             tables[m[1]] = columns
@@ -80,22 +72,22 @@ def main():
             cells = re.findall(r"(\w+)=('(?:[^']|'')*'|[^,]+)", m[3])
             made[m[1]] = f"insert into {tables[m[2]]} ({', '.join(c for c, _ in cells)}) values ({', '.join(v for _, v in cells)})"
         elif m := re.match(r"add (\w+)", line):
-            if not any(line.startswith("# a failed flush") for line in script[:number]):
+            if not is_over:
                 database.execute(made[m[1]])
-        elif number in stored:
-            text = sql(line[5:])
+        elif line.startswith("rows ") and rows_of(answer) is not None:
+            text, wanted = sql(line[5:]), rows_of(answer)
+            asked += 1
             try:
                 found = database.execute(text).fetchall()
             except sqlite3.OperationalError as refusal:
                 print(f"line {number}: SQLite: {refusal}")
                 continue
-            wanted = stored[number]
             if "order by" not in line:
                 found, wanted = sorted(found, key=repr), sorted(wanted, key=repr)
             if found != wanted:
                 bad += 1
-                print(f"line {number}: {text}\n  stored {wanted}\n  SQLite {found}")
-    print(f"{len(stored)} selects asked of SQLite {sqlite3.sqlite_version}, {bad} differ")
+                print(f"line {number}: {text}\n  answer {wanted}\n  SQLite {found}")
+    print(f"{asked} selects asked of SQLite {sqlite3.sqlite_version}, {bad} differ")
     return bad > 0
 
 

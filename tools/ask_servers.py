@@ -1,9 +1,11 @@
-"""Asks SQLite, PostgreSQL and MariaDB whether they take the texts that cases of scripts/ over the tables of written.sqla answer, and what
-the selects among them answer over small tables.
+"""Asks SQLite, PostgreSQL and MariaDB whether they take the texts that cases of scripts/ over the tables of written.sqla, library.sqla and
+reporting.sqla answer, and what the selects among them answer over small tables.
 
     python3 tools/ask_servers.py sqlite
     python3 tools/ask_servers.py postgresql "psql -h DIR -U USER DATABASE"
     python3 tools/ask_servers.py mysql "mariadb --socket=SOCKET DATABASE"
+
+Further words name other files of cases, as paths.
 
 The server's database must be empty. Each refused text is written with the server's message, and then each select whose
 rows, in any order, are not those of SQLite. A text that is refused for the rows that it would leave is only counted: the
@@ -17,12 +19,23 @@ import sys
 
 from script_cases import cases, statements
 
-FILES = ['compiled_%s.txt' % name for name in ('conditions', 'negations', 'sums', 'clauses', 'tables', 'writes')]
+FILES = ['compiled_%s.txt' % name for name in ('conditions', 'negations', 'sums', 'clauses', 'tables', 'writes', 'queries')]
+# of a server behind its command
+FILES += sys.argv[2 + (sys.argv[1] != 'sqlite'):]
 ROWS = [
     ('users', [(1, 'ann', 3, True, None, 'x'), (2, 'bob', None, False, b'ab', None),
                (3, "it's", 9, None, None, 'aQ')]),
     ('addresses', [(1, 1, 'x1'), (2, 1, None), (3, 2, 'y')]),
     ('solo', [(1,), (2,)]),
+    ('writers', [(1, 'ann', None), (2, 'bob', 1), (3, 'cat', 1)]),
+    ('books', [(1, 'oak', 120, 1), (2, 'elm', 90, 1), (3, 'ash', 120, 2), (4, None, None, None)]),
+    ('shelves', [(1, 'low'), (2, 'high'), (3, None)]),
+    ('placings', [(1, 1), (1, 3), (2, 1)]),
+    ('staff', [(1, 'staff', None, None), (2, 'manager', 1, 50), (3, 'director', 2, 70), (4, 'engineer', 2, None),
+               (5, 'lead', 2, None), (6, 'lead', 3, None), (8, 'manager', 3, 9)]),
+    ('engineers', [(4, 4), (5, 5), (6, None)]),
+    ('leads', [(5, 'x', 2), (6, 'y', 3)]),
+    ('notes', [(1, 5, 'n'), (2, 6, 'm'), (3, 5, None)]),
 ]
 
 # what servers say of the rows that a statement would leave
@@ -162,7 +175,8 @@ def script(dialect):
         elif label == 'CREATE AGAIN':
             again = marks(dialect, about).replace('CREATE TABLE ', 'CREATE TEMPORARY TABLE ', 1)
             if 'REFERENCES' not in about:
-                again = 'BEGIN; %s; ROLLBACK;' % again if dialect == 'postgresql' else again + ';'
+                name = again[len('CREATE TEMPORARY TABLE '):again.index(' (')]
+                again = 'BEGIN; %s; ROLLBACK;' % again if dialect == 'postgresql' else '%s; DROP TEMPORARY TABLE %s;' % (again, name)
                 lines.append(again)
         else:
             lines.append(marks(dialect, about) + ';')

@@ -25,6 +25,7 @@ import warnings
 
 import sqlalchemy as sa
 from mapped_classes import NULL, ClassBlock, Mapped, NotAsked, Refused, TableBlock, Words, is_value, plain, quoted, value
+from mapped_queries import Query
 from script_cases import cases_of
 from sqlalchemy import event, exc, orm
 from sqlalchemy.orm import exc as orm_exc
@@ -37,7 +38,10 @@ SQL_WORDS = set(
 # Refusals that this language alone has: SQLAlchemy has no such lines, or takes them.
 OWN = ("ScriptError", "NotBuilt", "TypeMismatch", "ArgumentError", "LimitReached", "CompileError")
 OWN_KINDS = ("Unknown", "WrongKind", "NotGrouped", "DuplicateFrom", "NotConfigured", "Configured", "InTransaction",
-             "KeyChange", "Discriminator", "BadOwner", "BadMember")
+             "KeyChange", "Discriminator", "BadOwner", "BadMember", "JoinedLimit")
+# Lines that this language refuses while a failed flush waits for its rollback, though they may send nothing.
+PENDING = ("add", "set", "append", "remove", "delete", "show", "flush", "get", "related", "refresh")
+OBJECT = re.compile(r"\b(\w+)@(\??\d+)")
 MARK = "?"  # A line that no script may have: its refusal tells where the answers of the lines before it end.
 
 
@@ -110,7 +114,7 @@ class Player:
     def __init__(self, url):
         self.url, self.blocks = url, []
         self.names, self.numbers, self.kept = {}, {}, []
-        self.mapped = self.engine = self.session = self.connection = None
+        self.mapped = self.engine = self.session = self.connection = self.unordered = None
 
     def configure(self):
         """Makes the tables and the classes, and opens the session."""
@@ -137,6 +141,7 @@ class Player:
                     connection.exec_driver_sql(text.replace("%", "%%"))
                 connection.commit()
         self.session = orm.Session(self.engine)
+        event.listen(self.session, "loaded_as_persistent", lambda _, it: self.kept.append(it))
 
     def end(self):
         """Lets go of what the script made."""
@@ -146,10 +151,11 @@ class Player:
         orm.clear_mappers()
 
     def object(self, words):
-        name = words.name()
-        if words.peek() == "[":
-            raise NotAsked("an index")
-        return self.names[name]
+        it = self.names[words.name()]
+        if words.takes("["):
+            it = it[int(words.take())]
+            words.take()
+        return it
 
     def member(self, words):
         owner = self.object(words)
@@ -159,11 +165,36 @@ class Player:
     def named(self, it):
         if it is None:
             return NULL
-        if id(it) in self.numbers:
-            return "%s@%d" % (type(it).__name__, self.numbers[id(it)])
         if isinstance(it, list):
             return "[%s]" % ", ".join(self.named(one) for one in it)
-        raise NotAsked("an object that was loaded")
+        return "%s@%s" % (type(it).__name__, self.numbers.get(id(it), "?%d" % self.place_of(it)))
+
+    def order(self, mine, line):
+        """Puts the objects of a query without an order, which is shown by this line, in the order in which the program has them."""
+        found, self.unordered = self.unordered, None
+        if found and self.names.get(plain(Words(line).peek(1))) is found and len(mine) == 1:
+            shown = [int(number) for _, number in OBJECT.findall(mine[0])]
+            known = {self.numbers[id(it)]: it for it in found if id(it) in self.numbers}
+            new = [it for it in found if id(it) not in self.numbers]
+            if len(shown) == len(found) and set(known) <= set(shown):
+                found[:] = [known[number] if number in known else new.pop(0) for number in shown]
+
+    def place_of(self, it):
+        """The place of an object among those that were made and read."""
+        return next(place for place, one in enumerate(self.kept) if one is it)
+
+    def number(self, mine, theirs):
+        """Takes the numbers by which the program shows objects whose numbers are not known yet: one each, of an object of the same class."""
+        for mine_one, theirs_one in zip(mine, theirs):
+            shown, held = OBJECT.findall(mine_one), OBJECT.findall(theirs_one)
+            if len(shown) == len(held):
+                for (name, number), (named, place) in zip(shown, held):
+                    if place[0] == "?" and name == named and number[0] != "?" and int(number) not in self.numbers.values():
+                        self.numbers[id(self.kept[int(place[1:])])] = int(number)
+
+    def numbered(self, answer):
+        """An answer with the numbers that are known by now."""
+        return OBJECT.sub(lambda it: it[0] if it[2][0] != "?" else self.named(self.kept[int(it[2][1:])]), answer)
 
     def make(self, name, words):
         made_of = self.mapped.classes[words.name()]
@@ -175,8 +206,32 @@ class Player:
             words.takes(",")
         made = made_of(**cells)
         self.kept.append(made)
-        self.numbers[id(made)] = len(self.kept)
         self.names[name] = made
+
+    def do_get(self, words):
+        made_of = self.mapped.classes[words.name()]
+        words.take()
+        key = []
+        while not words.takes(")"):
+            key.append(value(words.take()))
+            words.takes(",")
+        return self.session.get(made_of, tuple(key))
+
+    def do_objects(self, words):
+        query = Query(self.mapped, words)
+        try:
+            found = list(self.session.scalars(query.text).unique())
+            self.unordered = None if query.is_ordered else found
+            return found
+        except exc.OperationalError as fault:
+            if "no such table" in str(fault):
+                raise
+            raise NotAsked("a text that the store does not take") from fault
+
+    def do_related(self, words):
+        owner, name = self.member(words)
+        got = getattr(owner, name)
+        return list(got) if isinstance(got, list) else got
 
     def cells(self):
         """The cells of each object that has no row, by the object's place."""
@@ -207,7 +262,7 @@ class Player:
             elif form == "begin_nested":
                 self.names[plain(first)] = self.session.begin_nested()
             else:
-                raise NotAsked(form)
+                self.names[plain(first)] = getattr(self, "do_" + form)(words)
             return []
         return getattr(self, "do_" + first)(words) or []
 
@@ -225,6 +280,9 @@ class Player:
         if sa.inspect(it).detached:
             raise Refused("InvalidRequestError(NotPersistent)")
         self.session.delete(it)
+
+    def do_refresh(self, words):
+        self.session.refresh(self.object(words))
 
     def do_set(self, words):
         owner, name = self.member(words)
@@ -366,7 +424,9 @@ def refusal_of(fault, player):
         return "OperationalError(%s)" % (missing[1] or missing[2])
     if isinstance(fault, (exc.ResourceClosedError, orm_exc.ObjectDeletedError)):
         return type(fault).__name__
-    for kind, part in (("NotPersistent", "is not persisted"), ("Deleted", "has been deleted"),
+    if isinstance(fault, exc.InvalidRequestError) and text.startswith("Could not refresh instance"):
+        return "ObjectDeletedError"
+    for kind, part in (("NotPersistent", "is not persisted"), ("NotPersistent", "is not persistent within this Session"), ("Deleted", "has been deleted"),
                        ("IdentityConflict", "already present in this session")):
         if isinstance(fault, exc.InvalidRequestError) and part in text:
             return "InvalidRequestError(%s)" % kind
@@ -378,9 +438,15 @@ def bare_refusal(text):
     return re.sub(r"(CircularDependencyError|DetachedInstanceError|ObjectDeletedError|DataError)\(.*", r"\1", text)
 
 
+def form_of(line):
+    """The word that tells the form of a line."""
+    words = Words(line)
+    return words.peek(2) if words.peek(1) == "=" else words.peek()
+
+
 def is_own(refusal, form):
     """Whether this language alone has the refusal: SQLAlchemy's session does such lines, or has none."""
-    if refusal == "PendingRollbackError" and form in ("add", "set", "append", "remove", "delete", "show", "flush"):
+    if refusal == "PendingRollbackError" and form in PENDING:
         return True
     return refusal.startswith(OWN) or any("InvalidRequestError(%s" % kind in refusal for kind in OWN_KINDS)
 
@@ -419,8 +485,9 @@ def ending(lines):
     links, out = links_of(lines), []
     for line in lines:
         words = Words(line)
-        if words.words[1:3] == ["=", "new"] and len(words.words) > 3:
-            out += ["show %s.%s" % (words.words[0], link) for link in links.get(plain(words.words[3]), [])]
+        if words.peek(1) == "=" and words.peek(2) in ("new", "get", "objects") and len(words.words) > 3:
+            terms = [words.words[0]] if words.peek(2) != "objects" else ["%s[%d]" % (words.words[0], at) for at in range(3)]
+            out += ["show %s.%s" % (term, link) for term in terms for link in links.get(plain(words.words[3]), [])]
     return list(dict.fromkeys(out)) + ["commit", "dump"]
 
 
@@ -437,6 +504,8 @@ def parts_of(lines):
             words = Words(line)
             if words.peek() in ("table", "class") and words.peek(1) != "=":
                 block = parts[-1][1]
+            if form_of(line) in ("new", "get", "objects", "related") and words.peek(1) == "=":
+                parts.append((number, ["show " + words.peek()]))
     return parts
 
 
@@ -469,7 +538,7 @@ def shape(answer, form):
 
 def shapes(answers, line):
     """Answers as they are compared: rows of a select in no order, and warnings first, but for a line that is refused."""
-    form = Words(line).peek()
+    form = form_of(line)
     out = [shape(one, form) for one in answers]
     notes = sorted({one for one in out if one.startswith("warning: ")})
     rest = [one for one in out if not one.startswith("warning: ")]
@@ -516,16 +585,20 @@ def differences(program, url, script):
         for (number, part), ours in zip(parts, answers_of(program, parts)):
             refusal = next((one[7:] for one in ours if one.startswith("error: ")), "")
             line = part[0]
-            form = Words(line).peek()
+            form = form_of(line)
             if refusal and is_own(refusal, form) or form == "compile":
                 continue
-            if refusal.startswith("DataError(") and form in ("rows", "bulk"):
+            if refusal.startswith("DataError(") and form in ("rows", "bulk", "objects") and not refusal.startswith("DataError(keys of"):
                 line, ours = "flush", ours[:-1]  # The text alone was refused, behind the flush.
             if player.session is None and len(part) > 1:
                 player.blocks.append(part)
                 continue
             try:
-                mine, theirs = shapes(ours, line), shapes(played(player, line), line)
+                mine = shapes(ours, line)
+                player.order(mine, line)
+                theirs = shapes(played(player, line), line)
+                player.number(mine, theirs)
+                theirs = [player.numbered(one) for one in theirs]
             except Untaken:
                 continue
             if mine != theirs:
@@ -563,9 +636,7 @@ def main():
         parted += bool(found)
         for number, line, ours, theirs in found:
             print("%s:%d: %s: program %s, SQLAlchemy %s" % (name, number, line, ours or "nothing", theirs or "nothing"), flush=True)
-            form = Words(line)
-            about = form.peek(2) if form.peek(1) == "=" else form.peek()
-            kinds[(about, re.sub(r"\d+|'[^']*'", "..", ours), re.sub(r"\d+|'[^']*'", "..", theirs))] += 1
+            kinds[(form_of(line), re.sub(r"\d+|'[^']*'", "..", ours), re.sub(r"\d+|'[^']*'", "..", theirs))] += 1
     print("%d scripts asked, %d left out, %d with a difference" % (count, sum(left_out.values()), parted))
     for (form, ours, theirs), times in kinds.most_common():
         print("%4d  %s: program %s, SQLAlchemy %s" % (times, form, ours or "nothing", theirs or "nothing"))

@@ -41,15 +41,23 @@ def cases_of(file):
     return found
 
 
+def lines_of(name):
+    return (ROOM / f"{name}.sqla").read_text(encoding="utf-8").splitlines()
+
+
 def take(case, line):
     """Takes a line of the case."""
     head, _, text = line.partition(" ")
     if head == "$":
         case.words.append(text.split())
     elif head == "<":
-        included = (ROOM / f"{text}.sqla").read_text(encoding="utf-8")
-        for it in included.splitlines():
+        for it in lines_of(text):
             case.add(it, False)
+    elif head == "<*":
+        times, _, name = text.partition(" ")
+        for number in range(1, int(times) + 1):
+            for it in lines_of(name):
+                case.add(it.replace("%", str(number)), False)
     elif head == ">":
         case.add(text, False)
     elif head == ">*":

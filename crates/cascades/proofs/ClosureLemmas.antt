@@ -17,9 +17,10 @@ use Rattle.class_mapping.specs.Mapped.{Mapped}
 use Rattle.object_arena.specs.Graph.{Graph, IsObject}
 use Rattle.object_arena.specs.Fit.{IsFit}
 use Rattle.cascades.specs.declared.closures.Flag.{Flag}
-use Rattle.cascades.specs.Closures.{IsClosed, IsClosure, is_among, linked_objects}
+use Rattle.cascades.specs.Closures.{IsClosed, is_among, linked_objects}
+use Rattle.cascades.specs.Reaching.{IsReach}
 use Rattle.cascades.specs.Walks.{Comes, id_of_number, is_in, is_marked, marked_from}
-use Rattle.cascades.proofs.EndLemmas.{is_is_made, is_made, linked_made, made_is}
+use Rattle.cascades.proofs.EndLemmas.{all_made, is_made, linked_made, made_is}
 use Rattle.cascades.proofs.WalkLemmas.{among_left, among_one, among_split, clash, or_cases}
 
 -- ---- tests of lists
@@ -48,13 +49,13 @@ from_each inside (other ∷ objects) each =
 
 -- ---- the walk
 
--- The walk began at the object. All that waits it has come to; the links of what waits no more, but for what is skipped,
--- lead to where it has come; and it has come to nothing that a closed set with the object lacks.
-pub record IsWalk (flag : Flag) (mapped : Mapped) (graph : Graph) (object : ObjId) (skip : ObjId → Bool) (reached : ℕ → Bool) (waiting : List ObjId) : Type 0 where
-  pub began : reached object.0 ≡ true
+-- The walk began at some objects. All that waits it has come to; the links of what waits no more, but for what is skipped,
+-- lead to where it has come; and it has come to nothing that a closed set with these objects lacks.
+pub record IsWalk (flag : Flag) (mapped : Mapped) (graph : Graph) (starts : List ObjId) (skip : ObjId → Bool) (reached : ℕ → Bool) (waiting : List ObjId) : Type 0 where
+  pub began : (x : ObjId) → is_among starts x ≡ true → reached x.0 ≡ true
   pub held : (x : ObjId) → is_among waiting x ≡ true → reached x.0 ≡ true
   pub done : (x y : ObjId) → reached x.0 ≡ true → is_among waiting x ≡ false → skip x ≡ false → is_among (linked_objects flag mapped graph x) y ≡ true → reached y.0 ≡ true
-  pub least : (inside : ObjId → Bool) → inside object ≡ true → IsClosed flag mapped graph inside → (number : ℕ) → reached number ≡ true → inside (id_of_number number) ≡ true
+  pub least : (inside : ObjId → Bool) → list_all inside starts ≡ true → IsClosed flag mapped graph inside → (number : ℕ) → reached number ≡ true → inside (id_of_number number) ≡ true
 
 abbrev pub none : ObjId → Bool
 none x = false
@@ -69,17 +70,17 @@ none_marked (suc count) zero = refl
 none_marked (suc count) (suc number) = none_marked count number
 
 -- it begins
-pub walk_began : (flag : Flag) (mapped : Mapped) (graph : Graph) (object : ObjId) (none_yet keys : ℕ → Bool) (waiting : List ObjId) → ((number : ℕ) → none_yet number ≡ false) → Comes none_yet keys [] waiting (object ∷ []) → IsWalk flag mapped graph object none keys waiting
-walk_began flag mapped graph object none_yet keys waiting empty comes = record {
-  began = comes.all object (ap (λ (b : Bool). b || false) (eq-eqb object.0 object.0 refl));
+pub walk_began : (flag : Flag) (mapped : Mapped) (graph : Graph) (starts : List ObjId) (none_yet keys : ℕ → Bool) (waiting : List ObjId) → ((number : ℕ) → none_yet number ≡ false) → Comes none_yet keys [] waiting starts → IsWalk flag mapped graph starts none keys waiting
+walk_began flag mapped graph starts none_yet keys waiting empty comes = record {
+  began = λ x among. comes.all x among;
   held = λ x among. comes.held x among refl;
   done = λ x y there idle skip linked_to. clash (is_among waiting x) (comes.waits x.0 there (empty x.0)) idle;
-  least = λ inside begins closed number there. subst (λ (n : ℕ). inside (id_of_number n) ≡ true) (sym (among_one (id_of_number number) object (comes.only number there (empty number)))) begins;
+  least = λ inside begins closed number there. at_each inside starts (id_of_number number) begins (comes.only number there (empty number));
 }
 
 -- an object is taken out to be followed
-pub walk_taken : (flag : Flag) (mapped : Mapped) (graph : Graph) (object : ObjId) (keys : ℕ → Bool) (waiting rest : List ObjId) (next : ObjId) → waiting ≡ rest ++ next ∷ [] → IsWalk flag mapped graph object none keys waiting → IsWalk flag mapped graph object (is_it next) keys rest
-walk_taken flag mapped graph object keys waiting rest next is walk = record {
+pub walk_taken : (flag : Flag) (mapped : Mapped) (graph : Graph) (starts : List ObjId) (keys : ℕ → Bool) (waiting rest : List ObjId) (next : ObjId) → waiting ≡ rest ++ next ∷ [] → IsWalk flag mapped graph starts none keys waiting → IsWalk flag mapped graph starts (is_it next) keys rest
+walk_taken flag mapped graph starts keys waiting rest next is walk = record {
   began = walk.began;
   held = λ x among. walk.held x (subst (λ (ws : List ObjId). is_among ws x ≡ true) (sym is) (among_left rest (next ∷ []) x among));
   done = λ x y there idle skip linked_to. walk.done x y there (subst (λ (ws : List ObjId). is_among ws x ≡ false) (sym is) (out x idle skip)) refl linked_to;
@@ -98,8 +99,8 @@ walk_taken flag mapped graph object keys waiting rest next is walk = record {
         (cases_Bool (is_among (rest ++ next ∷ []) x))
 
 -- the object that was taken out had been reached
-pub taken_reached : (flag : Flag) (mapped : Mapped) (graph : Graph) (object : ObjId) (keys : ℕ → Bool) (waiting rest : List ObjId) (next : ObjId) → waiting ≡ rest ++ next ∷ [] → IsWalk flag mapped graph object none keys waiting → keys next.0 ≡ true
-taken_reached flag mapped graph object keys waiting rest next is walk =
+pub taken_reached : (flag : Flag) (mapped : Mapped) (graph : Graph) (starts : List ObjId) (keys : ℕ → Bool) (waiting rest : List ObjId) (next : ObjId) → waiting ≡ rest ++ next ∷ [] → IsWalk flag mapped graph starts none keys waiting → keys next.0 ≡ true
+taken_reached flag mapped graph starts keys waiting rest next is walk =
     walk.held next (subst (λ (ws : List ObjId). is_among ws next ≡ true) (sym is) (last rest))
   where
     last : (xs : List ObjId) → is_among (xs ++ next ∷ []) next ≡ true
@@ -111,9 +112,9 @@ taken_reached flag mapped graph object keys waiting rest next is walk =
         more false b h = h
 
 -- its links were followed
-pub walk_more : (flag : Flag) (mapped : Mapped) (graph : Graph) (object : ObjId) (old new : ℕ → Bool) (rest waiting : List ObjId) (next : ObjId) → old next.0 ≡ true → IsWalk flag mapped graph object (is_it next) old rest → Comes old new rest waiting (linked_objects flag mapped graph next) → IsWalk flag mapped graph object none new waiting
-walk_more flag mapped graph object old new rest waiting next reached walk comes = record {
-  began = comes.kept object.0 walk.began;
+pub walk_more : (flag : Flag) (mapped : Mapped) (graph : Graph) (starts : List ObjId) (old new : ℕ → Bool) (rest waiting : List ObjId) (next : ObjId) → old next.0 ≡ true → IsWalk flag mapped graph starts (is_it next) old rest → Comes old new rest waiting (linked_objects flag mapped graph next) → IsWalk flag mapped graph starts none new waiting
+walk_more flag mapped graph starts old new rest waiting next reached walk comes = record {
+  began = λ x among. comes.kept x.0 (walk.began x among);
   held = λ x among.
       ⊎_elim
       (λ (before : is_among rest x ≡ true). comes.kept x.0 (walk.held x before))
@@ -148,9 +149,9 @@ walk_more flag mapped graph object old new rest waiting next reached walk comes 
 made_closed : (flag : Flag) (mapped : Mapped) (graph : Graph) → IsFit mapped graph → IsClosed flag mapped graph (is_made graph)
 made_closed flag mapped graph fit x made = linked_made flag mapped graph x fit (made_is graph x made)
 
-pub reached_made : (flag : Flag) (mapped : Mapped) (graph : Graph) (object : ObjId) (skip : ObjId → Bool) (keys : ℕ → Bool) (waiting : List ObjId) (number : ℕ) → IsFit mapped graph → IsObject graph object → IsWalk flag mapped graph object skip keys waiting → keys number ≡ true → IsObject graph (id_of_number number)
-reached_made flag mapped graph object skip keys waiting number fit within walk there =
-    made_is graph (id_of_number number) (walk.least (is_made graph) (is_is_made graph object within) (made_closed flag mapped graph fit) number there)
+pub reached_made : (flag : Flag) (mapped : Mapped) (graph : Graph) (starts : List ObjId) (skip : ObjId → Bool) (keys : ℕ → Bool) (waiting : List ObjId) (number : ℕ) → IsFit mapped graph → All (IsObject graph) starts → IsWalk flag mapped graph starts skip keys waiting → keys number ≡ true → IsObject graph (id_of_number number)
+reached_made flag mapped graph starts skip keys waiting number fit within walk there =
+    made_is graph (id_of_number number) (walk.least (is_made graph) (all_made graph starts within) (made_closed flag mapped graph fit) number there)
 
 -- ---- a walk that keeps a set of numbers
 
@@ -164,11 +165,11 @@ below count (key ∷ keys) each =
     All-cons (λ number. number < count) key keys (each key (own_key key keys)) (below count keys (λ number there. each number (or_right _ (is_in keys number) there)))
 
 -- no more than there are objects
-pub reached_few : (flag : Flag) (mapped : Mapped) (graph : Graph) (object : ObjId) (skip : ObjId → Bool) (keys : List ℕ) (waiting : List ObjId) → IsFit mapped graph → IsObject graph object → IsStrictlySortedBy nat_cmp keys → IsWalk flag mapped graph object skip (is_in keys) waiting → length keys ≤ length graph.objects + 1
-reached_few flag mapped graph object skip keys waiting fit within ascending walk =
+pub reached_few : (flag : Flag) (mapped : Mapped) (graph : Graph) (starts : List ObjId) (skip : ObjId → Bool) (keys : List ℕ) (waiting : List ObjId) → IsFit mapped graph → All (IsObject graph) starts → IsStrictlySortedBy nat_cmp keys → IsWalk flag mapped graph starts skip (is_in keys) waiting → length keys ≤ length graph.objects + 1
+reached_few flag mapped graph starts skip keys waiting fit within ascending walk =
     length-le_from_below (length graph.objects + 1) keys ascending
     (below (length graph.objects + 1) keys (λ number there.
-    let inside : number ≤ length graph.objects = (reached_made flag mapped graph object skip (is_in keys) waiting number fit within walk there).1 in
+    let inside : number ≤ length graph.objects = (reached_made flag mapped graph starts skip (is_in keys) waiting number fit within walk there).1 in
     omega arith))
 
 below_all : (key : ℕ) (keys : List ℕ) → AllByRecursion (λ y. nat_cmp key y ≡ Less) keys → IsBelow (id_of_number key) (map id_of_number keys)
@@ -187,18 +188,21 @@ among_has (key ∷ keys) object =
 
 -- ---- a walk that has a mark for each object
 
--- the objects to which one is linked have marks, each its own
+-- objects that were made have marks, each its own
+within_marks : (graph : Graph) (objects : List ObjId) (marks : List Bool) → length marks ≡ length graph.objects + 1 → list_all (is_made graph) objects ≡ true → All (λ (end : ObjId). end.0 < length marks) objects
+within_marks graph [] marks long made = All-nil (λ (end : ObjId). end.0 < length marks)
+within_marks graph (x ∷ objects) marks long made =
+    let parts = and_parts (is_made graph x) (list_all (is_made graph) objects) made in
+    let it : x.0 ≤ length graph.objects = (made_is graph x parts.0).1 in
+    All-cons (λ (end : ObjId). end.0 < length marks) x objects (omega (arith, it, long)) (within_marks graph objects marks long parts.1)
+
+pub starts_within : (graph : Graph) (starts : List ObjId) (marks : List Bool) → length marks ≡ length graph.objects + 1 → All (IsObject graph) starts → All (λ (end : ObjId). end.0 < length marks) starts
+starts_within graph starts marks long made = within_marks graph starts marks long (all_made graph starts made)
+
+-- so have the objects to which one is linked
 pub ends_within : (flag : Flag) (mapped : Mapped) (graph : Graph) (object : ObjId) (ends : List ObjId) (marks : List Bool) → IsFit mapped graph → IsObject graph object → ends ≡ linked_objects flag mapped graph object → length marks ≡ length graph.objects + 1
     → All (λ (end : ObjId). end.0 < length marks) ends
-ends_within flag mapped graph object ends marks fit within is long =
-    all_within ends (ap (list_all (is_made graph)) is ∙ linked_made flag mapped graph object fit within)
-  where
-    all_within : (objects : List ObjId) → list_all (is_made graph) objects ≡ true → All (λ (end : ObjId). end.0 < length marks) objects
-    all_within [] made = All-nil (λ (end : ObjId). end.0 < length marks)
-    all_within (x ∷ objects) made =
-        let parts = and_parts (is_made graph x) (list_all (is_made graph) objects) made in
-        let it : x.0 ≤ length graph.objects = (made_is graph x parts.0).1 in
-        All-cons (λ (end : ObjId). end.0 < length marks) x objects (omega (arith, it, long)) (all_within objects parts.1)
+ends_within flag mapped graph object ends marks fit within is long = within_marks graph ends marks long (ap (list_all (is_made graph)) is ∙ linked_made flag mapped graph object fit within)
 
 -- ---- the objects that have marks, in order
 
@@ -265,15 +269,15 @@ among_at number (false ∷ marks) object zero is = before_marked (number + 1) ma
 among_at number (false ∷ marks) object (suc place) is = among_at (number + 1) marks object place (omega (arith, is))
 
 -- nothing waits any more
-pub walk_ended : (flag : Flag) (mapped : Mapped) (graph : Graph) (object : ObjId) (keys : ℕ → Bool) (waiting : List ObjId) (set : List ObjId) → IsFit mapped graph → IsObject graph object → IsAscending set → ((x : ObjId) → is_among set x ≡ keys x.0) → waiting ≡ [] → IsWalk flag mapped graph object none keys waiting → IsClosure flag mapped graph object set
-walk_ended flag mapped graph object keys waiting set fit within ascending there ended walk =
+pub walk_ended : (flag : Flag) (mapped : Mapped) (graph : Graph) (starts : List ObjId) (keys : ℕ → Bool) (waiting : List ObjId) (set : List ObjId) → IsFit mapped graph → All (IsObject graph) starts → IsAscending set → ((x : ObjId) → is_among set x ≡ keys x.0) → waiting ≡ [] → IsWalk flag mapped graph starts none keys waiting → IsReach flag mapped graph starts set
+walk_ended flag mapped graph starts keys waiting set fit within ascending there ended walk =
     record {
       ascending = ascending;
-      has = there object ∙ walk.began;
+      has = from_each (is_among set) starts (λ x among. there x ∙ walk.began x among);
       closed = λ x inside. from_each (is_among set) (linked_objects flag mapped graph x) (λ y linked_to.
           there y ∙ walk.done x y (sym (there x) ∙ inside) (ap (λ (ws : List ObjId). is_among ws x) ended) refl linked_to);
       least = λ inside begins closed. from_each inside set (λ x among. walk.least inside begins closed x.0 (sym (there x) ∙ among));
-      objects = all_objects set (λ x among. reached_made flag mapped graph object none keys waiting x.0 fit within walk (sym (there x) ∙ among));
+      objects = all_objects set (λ x among. reached_made flag mapped graph starts none keys waiting x.0 fit within walk (sym (there x) ∙ among));
     }
   where
     all_objects : (objects : List ObjId) → ((x : ObjId) → is_among objects x ≡ true → IsObject graph x) → All (IsObject graph) objects
@@ -283,16 +287,16 @@ walk_ended flag mapped graph object keys waiting set fit within ascending there 
         (all_objects objects (λ y among. each y (or_right (y.0 == x.0) (is_among objects y) among)))
 
 -- the numbers of a set
-pub kept_ended : (flag : Flag) (mapped : Mapped) (graph : Graph) (object : ObjId) (keys : List ℕ) (waiting : List ObjId) (set : List ObjId) → IsFit mapped graph → IsObject graph object → IsStrictlySortedBy nat_cmp keys → waiting ≡ [] → set ≡ map id_of_number keys
-    → IsWalk flag mapped graph object none (is_in keys) waiting → IsClosure flag mapped graph object set
-kept_ended flag mapped graph object keys waiting set fit within sorted ended is walk =
-    walk_ended flag mapped graph object (is_in keys) waiting set fit within (subst IsAscending (sym is) (in_order keys sorted)) (λ x. ap (λ (xs : List ObjId). is_among xs x) is ∙ among_has keys x) ended walk
+pub kept_ended : (flag : Flag) (mapped : Mapped) (graph : Graph) (starts : List ObjId) (keys : List ℕ) (waiting : List ObjId) (set : List ObjId) → IsFit mapped graph → All (IsObject graph) starts → IsStrictlySortedBy nat_cmp keys → waiting ≡ [] → set ≡ map id_of_number keys
+    → IsWalk flag mapped graph starts none (is_in keys) waiting → IsReach flag mapped graph starts set
+kept_ended flag mapped graph starts keys waiting set fit within sorted ended is walk =
+    walk_ended flag mapped graph starts (is_in keys) waiting set fit within (subst IsAscending (sym is) (in_order keys sorted)) (λ x. ap (λ (xs : List ObjId). is_among xs x) is ∙ among_has keys x) ended walk
 
 -- the objects that have marks
-pub marks_ended : (flag : Flag) (mapped : Mapped) (graph : Graph) (object : ObjId) (marks : List Bool) (waiting : List ObjId) (set : List ObjId) → IsFit mapped graph → IsObject graph object → waiting ≡ [] → set ≡ marked_from 0 marks
-    → IsWalk flag mapped graph object none (is_marked marks) waiting → IsClosure flag mapped graph object set
-marks_ended flag mapped graph object marks waiting set fit within ended is walk =
-    walk_ended flag mapped graph object (is_marked marks) waiting set fit within (subst IsAscending (sym is) (rising_marked 0 marks)) (λ x. ap (λ (xs : List ObjId). is_among xs x) is ∙ among_at 0 marks x x.0 (omega arith)) ended walk
+pub marks_ended : (flag : Flag) (mapped : Mapped) (graph : Graph) (starts : List ObjId) (marks : List Bool) (waiting : List ObjId) (set : List ObjId) → IsFit mapped graph → All (IsObject graph) starts → waiting ≡ [] → set ≡ marked_from 0 marks
+    → IsWalk flag mapped graph starts none (is_marked marks) waiting → IsReach flag mapped graph starts set
+marks_ended flag mapped graph starts marks waiting set fit within ended is walk =
+    walk_ended flag mapped graph starts (is_marked marks) waiting set fit within (subst IsAscending (sym is) (rising_marked 0 marks)) (λ x. ap (λ (xs : List ObjId). is_among xs x) is ∙ among_at 0 marks x x.0 (omega arith)) ended walk
 
 -- ---- answers
 

@@ -1,7 +1,7 @@
 -- The ends of links: all of them are objects of the graph.
 use Rattle.std.proofs.Common.{◌≡◌, ℕ, ◌+◌, ◌<◌, ◌≤◌, Bool, true, false, ◌&&◌, ◌||◌, List, [], ◌∷◌, ◌++◌, length, get_or, drop, min, suc, Option, None, Some, refl, sym, ap, ◌∙◌, ⊎_elim, ◌⊎◌, inl, inr, arith, append_assoc}
 use Rattle.std.specs.Prelude.{nat_lt, nat_le, not, slice_get}
-use Rattle.std.specs.List.{list_all}
+use Rattle.std.specs.List.{All, list_all}
 use Rattle.std.specs.Cmp.Lexicographic.{pointwise}
 use Rattle.std.proofs.Math.Seq.{drop-cons}
 use Rattle.std.proofs.lemmas.Bool.{and_from, and_parts, cases_lt}
@@ -76,6 +76,11 @@ is_is_made graph object within =
     let above : 0 < object.0 = within.0 in
     let inside : object.0 ≤ length graph.objects = within.1 in
     and_from (nat_lt 0 object.0) (nat_le object.0 (length graph.objects)) (grind (arith, nat_tests)) (grind (arith, nat_tests))
+
+pub all_made : (graph : Graph) (objects : List ObjId) → All (IsObject graph) objects → list_all (is_made graph) objects ≡ true
+all_made graph [] made = refl
+all_made graph (object ∷ objects) made =
+    and_from (is_made graph object) (list_all (is_made graph) objects) (is_is_made graph object (made 0 object (omega arith))) (all_made graph objects (λ i d less. made (suc i) d (omega (arith, less))))
 
 in_roots : (roots : List ClassId) (root : ClassId) (place : ℕ) (found : Option ClassId) → slice_get roots place ≡ found → is_root root found ≡ true → place < length roots
 in_roots roots root place None is h = absurd cc

@@ -1,4 +1,4 @@
--- The closure is what all closed sets have.
+-- A closure, and what is reached from several objects, is what all closed sets have.
 use Rattle.std.proofs.Common.{◌≡◌, ◌≢◌, ℕ, ◌+◌, ◌<◌, ◌≤◌, Bool, true, false, ◌&&◌, ◌||◌, cond, List, [], ◌∷◌, length, map, zero, suc, Result, Ok, Err, IfOk, refl, sym, ◌∙◌, subst, ⊎_elim, arith}
 use Rattle.std.specs.Prelude.{not, ◌==◌}
 use Rattle.std.specs.List.{All, filter, list_all, range_with_len}
@@ -10,10 +10,11 @@ use Rattle.class_mapping.specs.Mapped.{Mapped}
 use Rattle.object_arena.specs.Graph.{Graph, IsObject}
 use Rattle.object_arena.specs.Identity.{id_of_place}
 use Rattle.cascades.specs.declared.closures.Flag.{Flag}
-use Rattle.cascades.specs.Closures.{IsClosure, closure_of, has_beside, is_among, is_closed, linked_objects, sublists}
+use Rattle.cascades.specs.Closures.{IsClosed, IsClosure, closure_of, is_among, is_closed, linked_objects, sublists}
+use Rattle.cascades.specs.Reaching.{IsReach, reach_of}
 use Rattle.cascades.specs.Walks.{id_of_number}
 use Rattle.cascades.proofs.ClosureLemmas.{at_each, from_each}
-use Rattle.cascades.proofs.EndLemmas.{is_is_made, is_made, made_is}
+use Rattle.cascades.proofs.EndLemmas.{all_made, is_made, made_is}
 use Rattle.cascades.proofs.OneLemmas.{one_list}
 use Rattle.cascades.proofs.WalkLemmas.{or_cases}
 
@@ -106,11 +107,6 @@ of_all : (q : List ObjId → Bool) (lists : List (List ObjId)) → ((some : List
 of_all q [] each = refl
 of_all q (some ∷ lists) each = and_from (q some) (list_all q lists) (each some) (of_all q lists each)
 
-all_made : (graph : Graph) (objects : List ObjId) → All (IsObject graph) objects → list_all (is_made graph) objects ≡ true
-all_made graph [] made = refl
-all_made graph (object ∷ objects) made =
-    and_from (is_made graph object) (list_all (is_made graph) objects) (is_is_made graph object (made 0 object (omega arith))) (all_made graph objects (λ i d less. made (suc i) d (omega (arith, less))))
-
 -- ---- the closure
 
 turned_not : (a b : Bool) → (not a || b) ≡ true → a ≡ true → b ≡ true
@@ -121,10 +117,10 @@ beside_if : (a b : Bool) → (a ≡ true → b ≡ true) → (not a || b) ≡ tr
 beside_if true b h = h refl
 beside_if false b h = refl
 
--- every object of a closure is in each closed list with the object, and what is in all of these is in the closure
-pub closure_is : (flag : Flag) (mapped : Mapped) (graph : Graph) (object : ObjId) (xs : List ObjId) → IsClosure flag mapped graph object xs → xs ≡ closure_of flag mapped graph object
-unfolding closure_of
-closure_is flag mapped graph object xs is = one_list xs (filter in_all all) is.ascending (rising_part in_all all rising) there back
+-- what is in all lists that pass a test is the least of them
+least_is : (graph : Graph) (passes : List ObjId → Bool) (xs : List ObjId) → IsAscending xs → All (IsObject graph) xs → passes xs ≡ true → ((some : List ObjId) → passes some ≡ true → list_all (is_among some) xs ≡ true)
+    → xs ≡ filter (λ other. list_all (λ objects. not (passes objects) || is_among objects other) (sublists (map id_of_place (range_with_len 0 (length graph.objects))))) (map id_of_place (range_with_len 0 (length graph.objects)))
+least_is graph passes xs ascending objects passed least = one_list xs (filter in_all all) ascending (rising_part in_all all rising) there back
   where
     all : List ObjId
     all = ids 0 (length graph.objects)
@@ -132,40 +128,76 @@ closure_is flag mapped graph object xs is = one_list xs (filter in_all all) is.a
     rising : IsAscending all
     rising = rising_ids 0 (length graph.objects)
 
+    has : ObjId → List ObjId → Bool
+    has other some = not (passes some) || is_among some other
+
     in_all : ObjId → Bool
-    in_all other = list_all (has_beside flag mapped graph object other) (sublists all)
+    in_all other = list_all (has other) (sublists all)
 
     made : (other : ObjId) → is_among xs other ≡ true → is_among all other ≡ true
     made other among =
-        let it : IsObject graph other = made_is graph other (at_each (is_made graph) xs other (all_made graph xs is.objects) among) in
+        let it : IsObject graph other = made_is graph other (at_each (is_made graph) xs other (all_made graph xs objects) among) in
         among_ids other 0 (length graph.objects) it.0 (omega (arith, it.1))
 
     itself : filter (is_among xs) all ≡ xs
     itself =
-        one_list (filter (is_among xs) all) xs (rising_part (is_among xs) all rising) is.ascending
+        one_list (filter (is_among xs) all) xs (rising_part (is_among xs) all rising) ascending
         (λ other among. part_passes (is_among xs) all other among)
         (λ other among. part_has (is_among xs) all other (made other among) among)
 
     there : (other : ObjId) → is_among xs other ≡ true → is_among (filter in_all all) other ≡ true
     there other among =
         part_has in_all all other (made other among)
-        (of_all (has_beside flag mapped graph object other) (sublists all)
-        (λ some. beside_if (is_among some object && is_closed flag mapped graph some) (is_among some other)
-        (λ both.
-        let parts = and_parts (is_among some object) (is_closed flag mapped graph some) both in
-        at_each (is_among some) xs other
-        (is.least (is_among some) parts.0 (λ one inside. at_each (λ it. list_all (is_among some) (linked_objects flag mapped graph it)) some one parts.1 inside))
-        among)))
+        (of_all (has other) (sublists all) (λ some. beside_if (passes some) (is_among some other) (λ pass. at_each (is_among some) xs other (least some pass) among)))
 
     back : (other : ObjId) → is_among (filter in_all all) other ≡ true → is_among xs other ≡ true
     back other among =
-        let some : List ObjId = filter (is_among xs) all in
-        let beside : has_beside flag mapped graph object other xs ≡ true =
-        subst (λ (s : List ObjId). has_beside flag mapped graph object other s ≡ true) itself (of_part (has_beside flag mapped graph object other) (is_among xs) all (part_passes in_all all other among)) in
-        turned_not (is_among xs object && is_closed flag mapped graph xs) (is_among xs other) beside
-        (and_from (is_among xs object) (is_closed flag mapped graph xs) is.has
-        (from_each (λ it. list_all (is_among xs) (linked_objects flag mapped graph it)) xs (λ one inside. is.closed one inside)))
+        let beside : has other xs ≡ true =
+        subst (λ (s : List ObjId). has other s ≡ true) itself (of_part (has other) (is_among xs) all (part_passes in_all all other among)) in
+        turned_not (passes xs) (is_among xs other) beside passed
+
+-- a closed set is a closed list, and the other way round
+closed_list : (flag : Flag) (mapped : Mapped) (graph : Graph) (xs : List ObjId) → IsClosed flag mapped graph (is_among xs) → is_closed flag mapped graph xs ≡ true
+closed_list flag mapped graph xs closed = from_each (λ it. list_all (is_among xs) (linked_objects flag mapped graph it)) xs (λ one inside. closed one inside)
+
+list_closed : (flag : Flag) (mapped : Mapped) (graph : Graph) (xs : List ObjId) → is_closed flag mapped graph xs ≡ true → IsClosed flag mapped graph (is_among xs)
+list_closed flag mapped graph xs closed one inside = at_each (λ it. list_all (is_among xs) (linked_objects flag mapped graph it)) xs one closed inside
+
+-- every object of a closure is in each closed list with the object, and what is in all of these is in the closure
+pub closure_is : (flag : Flag) (mapped : Mapped) (graph : Graph) (object : ObjId) (xs : List ObjId) → IsClosure flag mapped graph object xs → xs ≡ closure_of flag mapped graph object
+unfolding closure_of
+closure_is flag mapped graph object xs is =
+    least_is graph (λ objects. is_among objects object && is_closed flag mapped graph objects) xs is.ascending is.objects
+    (and_from (is_among xs object) (is_closed flag mapped graph xs) is.has (closed_list flag mapped graph xs is.closed))
+    (λ some both. let parts = and_parts (is_among some object) (is_closed flag mapped graph some) both in is.least (is_among some) parts.0 (list_closed flag mapped graph some parts.1))
 
 pub if_closure : {E : Type 0} (flag : Flag) (mapped : Mapped) (graph : Graph) (object : ObjId) (r : Result (List ObjId) E) → IfOk r (IsClosure flag mapped graph object) → IfOk r (λ set. set ≡ closure_of flag mapped graph object)
 if_closure flag mapped graph object (Ok xs) is = closure_is flag mapped graph object xs is
 if_closure flag mapped graph object (Err e) is = tt
+
+-- ---- what is reached from several objects
+
+pub reach_is : (flag : Flag) (mapped : Mapped) (graph : Graph) (starts xs : List ObjId) → IsReach flag mapped graph starts xs → xs ≡ reach_of flag mapped graph starts
+unfolding reach_of
+reach_is flag mapped graph starts xs is =
+    least_is graph (λ objects. list_all (is_among objects) starts && is_closed flag mapped graph objects) xs is.ascending is.objects
+    (and_from (list_all (is_among xs) starts) (is_closed flag mapped graph xs) is.has (closed_list flag mapped graph xs is.closed))
+    (λ some both. let parts = and_parts (list_all (is_among some) starts) (is_closed flag mapped graph some) both in is.least (is_among some) parts.0 (list_closed flag mapped graph some parts.1))
+
+pub if_reach : {E : Type 0} (flag : Flag) (mapped : Mapped) (graph : Graph) (starts : List ObjId) (r : Result (List ObjId) E) → IfOk r (IsReach flag mapped graph starts) → IfOk r (λ set. set ≡ reach_of flag mapped graph starts)
+if_reach flag mapped graph starts (Ok xs) is = reach_is flag mapped graph starts xs is
+if_reach flag mapped graph starts (Err e) is = tt
+
+-- what is reached from one object is its closure
+reach_one : (flag : Flag) (mapped : Mapped) (graph : Graph) (object : ObjId) (xs : List ObjId) → IsReach flag mapped graph (object ∷ []) xs → IsClosure flag mapped graph object xs
+reach_one flag mapped graph object xs is = record {
+  ascending = is.ascending;
+  has = (and_parts (is_among xs object) true is.has).0;
+  closed = is.closed;
+  least = λ inside begins closed. is.least inside (and_from (inside object) true begins refl) closed;
+  objects = is.objects;
+}
+
+pub if_one : {E : Type 0} (flag : Flag) (mapped : Mapped) (graph : Graph) (starts : List ObjId) (object : ObjId) (r : Result (List ObjId) E) → starts ≡ object ∷ [] → IfOk r (IsReach flag mapped graph starts) → IfOk r (IsClosure flag mapped graph object)
+if_one flag mapped graph starts object (Ok xs) one is = reach_one flag mapped graph object xs (subst (λ (os : List ObjId). IsReach flag mapped graph os xs) one is)
+if_one flag mapped graph starts object (Err e) one is = tt

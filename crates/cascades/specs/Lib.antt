@@ -1,2 +1,3 @@
 pub mod Closures
+pub mod Reaching
 pub mod Walks

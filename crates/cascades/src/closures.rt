@@ -1,10 +1,12 @@
-//! The four closures of an object.
+//! The four closures of an object, and what calls reach from several objects.
 
 ghost use Rattle.std.specs.Prelude.{◌≡◌, ◌++◌, IfOk, OnOk};
+ghost use Rattle.std.specs.List.{All};
 ghost use Rattle.object_arena.specs.Graph.{IsObject};
 ghost use Rattle.object_arena.specs.Fit.{IsFit};
 ghost use Rattle.cascades.specs.declared.closures.Flag.TheVariants.{SaveUpdate, RefreshExpire, Expunge, Delete};
 ghost use Rattle.cascades.specs.Closures as spec;
+ghost use Rattle.cascades.specs.Reaching as reaching;
 
 use crate::marks::Marks;
 use crate::walk::Walk;
@@ -13,6 +15,7 @@ use class_mapping::{Cascade, Mapping, Relation};
 use object_arena::{Arena, Link};
 use object_parts::add_ends;
 use std::alloc::{AllocError, Global};
+use std::slice::from_ref;
 
 /// In a graph of so many objects a walk has a mark for each.
 const MOST_MARKED: u32 = 8192;
@@ -102,27 +105,59 @@ fn closure(
     requires object { IsObject arena.now object }
     ensures { IfOk result (spec.IsClosure flag mapping.now arena.now object) }
 {
-    if arena.count() <= MOST_MARKED {
-        return closure_marked(alloc, arena, mapping, flag, object);
-    }
-    closure_kept(alloc, arena, mapping, flag, object)
+    reach(alloc, arena, mapping, flag, from_ref(&object))
 }
 
-/// The least closed set that has an object, by a walk with a mark for each object of the graph: the fastest where there are few.
-fn closure_marked(
+/// All that calls of a kind go on to from some objects, these included. The only refusal is out of memory.
+pub fn reached(
     alloc: Global,
     arena: &Arena,
     mapping: &Mapping,
     flag: Flag,
-    object: ObjId,
+    starts: &[ObjId],
 ) -> Result<ObjSet, AllocError>
     requires fit { IsFit mapping.now arena.now }
-    requires object { IsObject arena.now object }
-    ensures { IfOk result (spec.IsClosure flag mapping.now arena.now object) }
+    requires starts { All (IsObject arena.now) starts.now }
+    ensures reach { IfOk result (reaching.IsReach flag mapping.now arena.now starts.now) }
+    ensures is { IfOk result (λ set. set
+        ≡ reaching.reach_of flag mapping.now arena.now starts.now) }
+{
+    reach(alloc, arena, mapping, flag, starts)
+}
+
+/// The least closed set that has some objects.
+fn reach(
+    alloc: Global,
+    arena: &Arena,
+    mapping: &Mapping,
+    flag: Flag,
+    starts: &[ObjId],
+) -> Result<ObjSet, AllocError>
+    requires fit { IsFit mapping.now arena.now }
+    requires starts { All (IsObject arena.now) starts.now }
+    ensures { IfOk result (reaching.IsReach flag mapping.now arena.now starts.now) }
+{
+    if arena.count() <= MOST_MARKED {
+        return reach_marked(alloc, arena, mapping, flag, starts);
+    }
+    reach_kept(alloc, arena, mapping, flag, starts)
+}
+
+/// The least closed set that has some objects, by a walk with a mark for each object of the graph: the fastest where there are few.
+fn reach_marked(
+    alloc: Global,
+    arena: &Arena,
+    mapping: &Mapping,
+    flag: Flag,
+    starts: &[ObjId],
+) -> Result<ObjSet, AllocError>
+    requires fit { IsFit mapping.now arena.now }
+    requires starts { All (IsObject arena.now) starts.now }
+    ensures { IfOk result (reaching.IsReach flag mapping.now arena.now starts.now) }
 {
     let mut walk = Marks::new(alloc, arena.count())?;
     let mut ends = ListOf::new(alloc);
-    walk.come_to(object)?;
+    walk.come_to_all(starts)?;
     while let Some(next) = walk.waiting.pop() {
         ends.clear();
         add_linked(&mut ends, arena, mapping, flag, next)?;
@@ -131,21 +166,21 @@ fn closure_marked(
     walk.into_set(alloc)
 }
 
-/// The least closed set that has an object, by a walk whose time grows with that set alone.
-fn closure_kept(
+/// The least closed set that has some objects, by a walk whose time grows with that set alone.
+fn reach_kept(
     alloc: Global,
     arena: &Arena,
     mapping: &Mapping,
     flag: Flag,
-    object: ObjId,
+    starts: &[ObjId],
 ) -> Result<ObjSet, AllocError>
     requires fit { IsFit mapping.now arena.now }
-    requires object { IsObject arena.now object }
-    ensures { IfOk result (spec.IsClosure flag mapping.now arena.now object) }
+    requires starts { All (IsObject arena.now) starts.now }
+    ensures { IfOk result (reaching.IsReach flag mapping.now arena.now starts.now) }
 {
     let mut walk = Walk::new(alloc);
     let mut ends = ListOf::new(alloc);
-    walk.come_to(object)?;
+    walk.come_to_all(starts)?;
     while let Some(next) = walk.waiting.pop() {
         ends.clear();
         add_linked(&mut ends, arena, mapping, flag, next)?;

@@ -5,4 +5,4 @@ mod closures;
 mod marks;
 mod walk;
 
-pub use closures::{Flag, delete_closure, expire_closure, expunge_closure, save_closure};
+pub use closures::{Flag, delete_closure, expire_closure, expunge_closure, reached, save_closure};

@@ -113,7 +113,7 @@ full_column : (s : ℕ) (c : ColumnNo) → has_full_lists (expr.Column s c) ≡ 
 unfolding has_full_lists
 full_column s c = fold-Column Bool full_level s c
 
-lacks_column : (s : ℕ) (c : ColumnNo) → has_aggregate (expr.Column s c) ≡ false
+pub lacks_column : (s : ℕ) (c : ColumnNo) → has_aggregate (expr.Column s c) ≡ false
 unfolding has_aggregate
 lacks_column s c = fold-Column Bool aggregate_level s c
 

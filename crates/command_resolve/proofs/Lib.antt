@@ -1,2 +1,4 @@
+pub mod Causes
+mod Keyed
 mod Made
 mod Named

@@ -1,24 +1,30 @@
 -- What a line asks for, with numbers in the place of its names, or the first refusal that needs no session.
-use Rattle.std.specs.Prelude.{ℕ, Bool, true, false, List, None, Some, Ok, Err, if◌then◌else◌, is_none}
+use Rattle.std.specs.Prelude.{◌==◌, ℕ, Bool, true, false, not, ◌&&◌, List, ◌∷◌, length, Option, None, Some, Ok, Err, if◌then◌else◌, is_none}
+use Rattle.base_core.specs.declared.refusal.Refusal.{Refusal}
 use Rattle.base_core.specs.declared.refusal.Refusal.TheVariants.{NotBuilt}
+use Rattle.base_core.specs.declared.ids.AttrNo.{AttrNo}
+use Rattle.base_core.specs.declared.ids.ClassId.{ClassId}
 use Rattle.base_core.specs.declared.ids.ObjId.{ObjId}
 use Rattle.base_core.specs.declared.ids.RelNo.{RelNo}
 use Rattle.base_core.specs.declared.value.Value.{Value}
-use Rattle.schema_core.specs.Tables.{kind_of_value}
-use Rattle.class_mapping.specs.Mapped.{Mapped}
+use Rattle.schema_core.specs.Tables.{has_null, kind_of_value}
+use Rattle.class_mapping.specs.Mapped.{Mapped, key_attributes}
 use Rattle.relations.specs.declared.calls.LinkCall.TheVariants.{Set, Append, Remove}
 use Rattle.sql_semantics.specs.Checked.{Checked, ◌>>=◌}
 use Rattle.script_types.specs.declared.command.Command.{Command}
 use Rattle.script_types.specs.declared.command.Command.TheVariants as line
 use Rattle.script_types.specs.declared.command.Term.{Term}
 use Rattle.script_types.specs.declared.select.SynBulk.{SynBulk}
+use Rattle.script_types.specs.declared.select.SynQuery.{SynQuery}
 use Rattle.script_types.specs.declared.select.SynSelect.{SynSelect}
 use Rattle.script_resolve.specs.Bulks.{resolved_bulk}
 use Rattle.script_resolve.specs.Selects.{resolved_select}
 use Rattle.command_names.specs.declared.members.Member.{Member}
 use Rattle.command_names.specs.declared.members.Member.TheVariants.{Attribute, One, Many}
-use Rattle.command_names.specs.Attributes.{Giving, cells_of, class_named, link_named, member_named, unless_fault, value_fault}
+use Rattle.command_names.specs.Attributes.{Giving, cells_of, class_named, first_of_two, link_named, member_named, unless_fault, value_fault}
 use Rattle.command_names.specs.Terms.{Bindings, Named, handle_if_named, object_of, shown_of, wrong_kind}
+use Rattle.query_names.specs.Queries.{resolved_query}
+use Rattle.query_names.specs.Sources.{relation_named}
 use Rattle.command_resolve.specs.declared.resolved.Resolved.{Resolved}
 use Rattle.command_resolve.specs.declared.resolved.Resolved.TheVariants as resolved
 
@@ -52,6 +58,34 @@ resolved_show_at mapped member named = member_named mapped named.1 member >>= λ
 
 abbrev pub resolved_show : Mapped → Bindings → Term → List ℕ → Checked Resolved
 resolved_show mapped names term member = object_of names term >>= resolved_show_at mapped member
+
+-- what a relationship of an object leads to
+abbrev pub resolved_related_at : Mapped → List ℕ → List ℕ → Named → Checked Resolved
+resolved_related_at mapped name member named = relation_named mapped named.1 member >>= λ relation. Ok (resolved.Related name named.0 relation)
+
+abbrev pub resolved_related : Mapped → Bindings → List ℕ → Term → List ℕ → Checked Resolved
+resolved_related mapped names name term member = object_of names term >>= resolved_related_at mapped name member
+
+-- a key has a value for each key column, none of them NULL
+abbrev pub is_whole_key : Mapped → ClassId → List Value → Bool
+is_whole_key mapped class key = length key == length (key_attributes mapped class) && not (has_null key)
+
+-- the fault of the first value of a key that is of another kind than its column
+abbrev pub parts_fault : Mapped → ClassId → List AttrNo → List Value → Option Refusal
+parts_fault mapped class (attr ∷ attrs) (value ∷ values) = first_of_two (value_fault mapped class attr value) (parts_fault mapped class attrs values)
+parts_fault mapped class attrs values = None
+
+-- the key that a line gives for a class
+abbrev pub resolved_key : Mapped → ClassId → List Value → Checked (List Value)
+resolved_key mapped class key = if is_whole_key mapped class key then unless_fault (parts_fault mapped class (key_attributes mapped class) key) key else wrong_kind
+
+-- an object of a class by its key
+abbrev pub resolved_get : Mapped → List ℕ → List ℕ → List Value → Checked Resolved
+resolved_get mapped name class key = class_named mapped class >>= λ class. (resolved_key mapped class key >>= λ key. Ok (resolved.Get name class key))
+
+-- the objects of a query
+abbrev pub resolved_objects : Mapped → List ℕ → SynQuery → Checked Resolved
+resolved_objects mapped name written = resolved_query mapped written >>= λ query. Ok (resolved.Objects name query)
 
 -- the object that a term stands for, of whatever class
 abbrev pub id_of_term : Bindings → Term → Checked ObjId
@@ -96,6 +130,9 @@ resolve mapped names line.CreateAll = Ok resolved.CreateAll
 resolve mapped names line.DropAll = Ok resolved.DropAll
 resolve mapped names line.Dump = Ok resolved.Dump
 resolve mapped names (line.New name class given) = resolved_new mapped name class given
+resolve mapped names (line.Get name class key) = resolved_get mapped name class key
+resolve mapped names (line.Objects name query) = resolved_objects mapped name query
+resolve mapped names (line.Related name term member) = resolved_related mapped names name term member
 resolve mapped names (line.BeginNested name) = Ok (resolved.BeginNested name)
 resolve mapped names (line.SetValue term member value) = resolved_set mapped names term member value
 resolve mapped names (line.SetTerm term member other) = resolved_set_one mapped names term member other
@@ -103,6 +140,7 @@ resolve mapped names (line.Append term member other) = resolved_append mapped na
 resolve mapped names (line.Remove term member other) = resolved_remove mapped names term member other
 resolve mapped names (line.Add term) = id_of_term names term >>= λ object. Ok (resolved.Add object)
 resolve mapped names (line.Delete term) = id_of_term names term >>= λ object. Ok (resolved.Delete object)
+resolve mapped names (line.Refresh term) = id_of_term names term >>= λ object. Ok (resolved.Refresh object)
 resolve mapped names (line.Show term) = resolved_thing names term
 resolve mapped names (line.ShowMember term member) = resolved_show mapped names term member
 resolve mapped names (line.State term) = id_of_term names term >>= λ object. Ok (resolved.State object)

@@ -3,7 +3,9 @@
 #![tactic(auto)]
 
 mod answer;
+mod keys;
 mod links;
+mod queries;
 mod resolved;
 mod resolving;
 mod statements;

@@ -1,7 +1,7 @@
 //! Lines of the script with numbers in the place of their names.
 
-use base_core::{AttrNo, ClassId, ListOf, Name, ObjId, RelNo, Value};
-use expr_types::{Bulk, Select};
+use base_core::{AttrNo, ClassId, Key, ListOf, Name, ObjId, RelNo, Value};
+use expr_types::{Bulk, ObjectQuery, Select};
 use relations::LinkCall;
 use shell_parts::Bound;
 use sqlite_items::Boxed;
@@ -19,6 +19,24 @@ pub enum Resolved {
         /// Each attribute once, and each value NULL or of its attribute's kind.
         cells: ListOf<(AttrNo, Value)>,
     },
+    /// The object of a class under a key, or none, is to be bound to a name.
+    Get {
+        name: Name,
+        class: ClassId,
+        /// A value of its kind for each column of the class's key.
+        key: Key,
+    },
+    /// The objects of a query are to be bound to a name.
+    Objects {
+        name: Name,
+        query: Boxed<ObjectQuery>,
+    },
+    /// What a relationship of an object leads to is to be bound to a name.
+    Related {
+        name: Name,
+        object: ObjId,
+        relation: RelNo,
+    },
     /// The name to which the new savepoint is to be bound.
     BeginNested(Name),
     SetCell {
@@ -35,6 +53,8 @@ pub enum Resolved {
     },
     Add(ObjId),
     Delete(ObjId),
+    /// An object is to be read anew.
+    Refresh(ObjId),
     /// No savepoint is shown.
     Show(Bound),
     ShowCell(ObjId, AttrNo),

@@ -14,7 +14,9 @@ ghost use Rattle.command_names.specs.Standing.{AreOfDeclared, AreThere};
 ghost use Rattle.command_resolve.specs.Resolving as spec;
 ghost use Rattle.command_resolve.specs.Standing.{IsOfResolving, IsResolved};
 
+use crate::keys::resolved_get;
 use crate::links::{resolved_append, resolved_remove, resolved_set_one};
+use crate::queries::{resolved_objects, resolved_related};
 use crate::resolved::Resolved;
 use crate::statements::{resolved_rows, resolved_statement};
 use base_core::{AttrNo, ClassId, Copied, Name, ObjId, Refusal, RelNo, Value};
@@ -192,8 +194,10 @@ fn resolved_same(names: &Names, term: &Term, other: &Term) -> Result<Resolved, R
 /// # Errors
 /// `Unknown` of the first name that is not bound, or that no class, attribute or relationship has; `WrongKind` of the first that
 /// stands for something else than its place wants, or that is given twice; then `TypeMismatch` of the first value of another kind than its
-/// attribute. Of a select or a bulk statement the first fault that `resolve_select` or `resolve_bulk` answers. `NotBuilt` of a form
-/// that is not built. `Memory`.
+/// attribute or than its column of a key; `WrongKind` of a key that has not a value for each column. Of a select, a bulk statement or a
+/// query for objects the first fault that `resolve_select`, `resolve_bulk` or `resolve_query` answers. `NotBuilt` of a form that is
+/// not built. `Memory`.
+#[tactic(auto, using(crate::proofs::Causes::causes))]
 pub fn resolve(
     alloc: Global,
     mapping: &Mapping,
@@ -215,6 +219,13 @@ pub fn resolve(
         Command::New { name, class, cells } => {
             resolved_new(alloc, mapping, name, class, cells.as_slice())
         }
+        Command::Get { name, class, key } => resolved_get(mapping, name, class, key),
+        Command::Objects { name, query } => resolved_objects(alloc, mapping, name, query),
+        Command::Related {
+            name,
+            term,
+            relation,
+        } => resolved_related(mapping, names, name, term, relation),
         Command::BeginNested(name) => Ok(Resolved::BeginNested(name.copied()?)),
         Command::SetValue {
             term,
@@ -238,6 +249,7 @@ pub fn resolve(
         } => resolved_remove(mapping, names, term, member, other),
         Command::Add(term) => Ok(Resolved::Add(id_of_term(names, term)?)),
         Command::Delete(term) => Ok(Resolved::Delete(id_of_term(names, term)?)),
+        Command::Refresh(term) => Ok(Resolved::Refresh(id_of_term(names, term)?)),
         Command::Show(term) => resolved_thing(alloc, names, term),
         Command::ShowMember(term, member) => resolved_show(mapping, names, term, member),
         Command::State(term) => Ok(Resolved::State(id_of_term(names, term)?)),

@@ -78,7 +78,6 @@ fn part_at(
     ensures { IfOk result
         (λ part. part ≡ spec.part_at mapping.now class place first) }
 {
-    let _ = mapping.schema();
     part_from(
         alloc,
         mapping,

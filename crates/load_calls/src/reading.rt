@@ -2,6 +2,7 @@
 
 ghost use Rattle.std.specs.Prelude.{◌≡◌, ◌++◌, ◌∷◌, [], IfErr, IfOk, OnErr, OnOk};
 ghost use Rattle.base_core.specs.declared.refusal.Refusal.TheVariants.{Memory};
+ghost use Rattle.class_mapping.specs.Configured.{IsConfigured};
 ghost use Rattle.object_arena.specs.Graph.{Graph};
 ghost use Rattle.keeper_core.specs.declared.notes.Note.TheVariants as note;
 ghost use Rattle.keeper_core.specs.Keeping.{RefusesSelect};
@@ -70,9 +71,10 @@ pub fn read<K: Keeper>(
     ensures refuses { IfErr result (RefusesSelect mapping.now.schema select.now) }
     ensures noted { OnOk result
         (notes.new ≡ notes.old ++ note.Sent (sent.Query select.now) ∷ []) }
+    ensures configured { IsConfigured mapping.now }
 {
-    note_select(alloc, select, notes)?;
     let schema = mapping.schema();
+    note_select(alloc, select, notes)?;
     let rows = calls::query(alloc, keeper, schema, select)?;
     let fit = are_answers(alloc, schema, select, rows.as_slice())?;
     if !fit {

@@ -11,8 +11,7 @@ use Rattle.base_core.specs.declared.ids.RelNo.{RelNo}
 use Rattle.base_core.specs.declared.refusal.Refusal.{Refusal}
 use Rattle.class_layouts.proofs.Steps.{numbered_at}
 use Rattle.class_mapping.specs.Mapped.{Mapped, relations_of, root_of}
-use Rattle.class_mapping.specs.Paired.{IsAt, is_at_or_under}
-use Rattle.mapping_laws.specs.Hierarchies.{HasHierarchies}
+use Rattle.class_mapping.specs.Paired.{HasPairs, IsAt, is_at_or_under}
 use Rattle.object_arena.specs.Every.{classes_of}
 use Rattle.object_arena.specs.Fit.{end_fits, is_of_root, no_relation, relation_of}
 use Rattle.object_arena.specs.Graph.{Graph, IsObject}
@@ -42,10 +41,10 @@ pub record Inherits (mapped : Mapped) (own class : ClassId) (place : RelNo) : Ty
   pub within : place.0 < length (relations_of mapped own)
   pub same : relation_of mapped own place ≡ relation_of mapped class place
 
-pub inherits : (mapped : Mapped) (own class : ClassId) (place : RelNo) → HasHierarchies mapped → is_at_or_under mapped own class ≡ true → place.0 < length (relations_of mapped class) → Inherits mapped own class place
-inherits mapped own class place has under less =
+pub inherits : (mapped : Mapped) (own class : ClassId) (place : RelNo) → HasPairs mapped → is_at_or_under mapped own class ≡ true → place.0 < length (relations_of mapped class) → Inherits mapped own class place
+inherits mapped own class place paired under less =
     let at : IsAt mapped own place.0 (relation_of mapped class place) =
-    has.paired.inherited own class place.0 (relation_of mapped class place) under (slice_get-get_or (relations_of mapped class) place.0 no_relation less) in
+    paired.inherited own class place.0 (relation_of mapped class place) under (slice_get-get_or (relations_of mapped class) place.0 no_relation less) in
     record {
       within = slice_get_within (relations_of mapped own) place.0 (relation_of mapped class place) at;
       same = get_or_from_slice_get (relations_of mapped own) place.0 (relation_of mapped class place) no_relation at;

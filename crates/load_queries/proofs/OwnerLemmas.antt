@@ -1,5 +1,5 @@
 -- The owners of links that are loaded together.
-use Rattle.std.proofs.Common.{◌≡◌, ◌<◌, Bool, true, List, [], ◌∷◌, length, slice_get, Some, refl, sym, subst, ◌∙◌, arith}
+use Rattle.std.proofs.Common.{◌≡◌, ◌<◌, Bool, true, List, [], ◌∷◌, length, slice_get, Some, sym, subst, ◌∙◌, arith}
 use Rattle.std.specs.List.{All}
 use Rattle.std.proofs.lemmas.Option.{get_or_from_slice_get, same_Some, slice_get-get_or, slice_get_within}
 use Rattle.std.proofs.lemmas.Bool.{and_parts}
@@ -9,10 +9,10 @@ use Rattle.base_core.specs.declared.ids.RelNo.{RelNo}
 use Rattle.class_types.specs.declared.mapped.Relation.{Relation}
 use Rattle.class_mapping.specs.Mapped.{Mapped, relations_of}
 use Rattle.class_mapping.specs.Paired.{HasPairs, IsAt, is_at_or_under}
-use Rattle.object_arena.specs.declared.object.State.{State}
-use Rattle.object_arena.specs.declared.object.State.TheVariants.{Transient, Pending, Persistent, Deleted, Detached}
+use Rattle.object_arena.specs.declared.object.State.TheVariants.{Persistent}
 use Rattle.object_arena.specs.Fit.{no_relation, relation_of}
 use Rattle.object_arena.specs.Graph.{Graph, IsObject, is_persistent, object_at}
+use Rattle.object_parts.proofs.Expiries.{persistent_is}
 use Rattle.load_filling.specs.Growing.{Grows}
 use Rattle.load_calls.proofs.CollectionLemmas.{owner_there}
 use Rattle.load_batches.specs.Batches.{IsOwner}
@@ -72,13 +72,6 @@ pub children_of : (mapped : Mapped) (graph : Graph) (relation : Relation) (place
 children_of mapped graph relation place owners all = λ i d less. record { made = (all i d less).made; within = (all i d less).within; is = (all i d less).is }
 
 -- ---- which objects are owners
-
-persistent_is : (state : State) → is_persistent state ≡ true → state ≡ Persistent
-persistent_is Transient is = absurd cc
-persistent_is Pending is = absurd cc
-persistent_is Persistent is = refl
-persistent_is Deleted is = absurd cc
-persistent_is Detached is = absurd cc
 
 -- one that passes the test is one
 pub owner_tested : (mapped : Mapped) (graph : Graph) (class : ClassId) (object : ObjId) (b : Bool) → IsObject graph object → b ≡ is_owner mapped class graph object → b ≡ true → IsOwnerOf mapped graph class object

@@ -52,7 +52,6 @@ fn fill_link(
     ensures fits { IsFit mapping.now arena.new }
     ensures classes { classes_of arena.new ≡ classes_of arena.old }
 {
-    let _ = mapping.schema();
     let many = relation_at(mapping, class, place).many;
     if many {
         return fill_collection(alloc, arena, mapping, owner, place, given, notes);

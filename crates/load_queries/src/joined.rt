@@ -74,7 +74,6 @@ fn read_rows<K: Keeper>(
         (parts_of mapping.now query.now.class query.now.joined))) }
     ensures refuses { IfErr result (CanRefuseRows mapping.now) }
 {
-    let _ = mapping.schema();
     rows_have_parts();
     let wanted = main_select(alloc, mapping, query)?;
     read(alloc, mapping, keeper, &wanted, notes)

@@ -3,6 +3,7 @@
 ghost use Rattle.std.specs.Prelude.{◌≡◌, ◌<◌, length, slice_get, IfErr};
 ghost use Rattle.std.specs.List.{All};
 ghost use Rattle.class_mapping.specs.Mapped.{IsClass, relations_of};
+ghost use Rattle.class_mapping.specs.Paired.{HasPairs};
 ghost use Rattle.class_mapping.specs.Related.{IsRelated};
 ghost use Rattle.object_arena.specs.Fit.{IsFit, relation_of};
 ghost use Rattle.keeper_core.specs.Beside.{moment_beside};
@@ -29,8 +30,8 @@ pub(crate) fn related(mapping: &Mapping, class: ClassId, place: RelNo) -> &Relat
     requires place { place.0 < length (relations_of mapping.now class) }
     ensures is { result.now ≡ relation_of mapping.now class place }
     ensures related { IsRelated mapping.now result.now }
+    ensures paired { HasPairs mapping.now }
 {
-    let _ = mapping.schema();
     relation_at(mapping, class, place)
 }
 

@@ -52,7 +52,6 @@ fn load_option<K: Keeper>(
     ensures fits { IsFit mapping.now arena.new }
     ensures refuses { IfErr result (CanRefuseRows mapping.now) }
 {
-    let _ = mapping.schema();
     let relation = related(mapping, class, place);
     let owners = owners_among(alloc, &*arena, mapping, class, objects)?;
     load_together(

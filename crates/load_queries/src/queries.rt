@@ -44,7 +44,6 @@ fn read_rows<K: Keeper>(
     ensures rows { IfOk result (AllByRecursion (IsRowOf mapping.now query.now.class)) }
     ensures refuses { IfErr result (CanRefuseRows mapping.now) }
 {
-    let _ = mapping.schema();
     read(alloc, mapping, keeper, &query.select, notes)
 }
 

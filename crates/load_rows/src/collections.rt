@@ -3,6 +3,8 @@
 ghost use Rattle.std.specs.Prelude.{◌≡◌, ◌<◌, true, length, OnOk};
 ghost use Rattle.std.specs.List.{All};
 ghost use Rattle.class_mapping.specs.Mapped.{IsClass, relations_of, root_of};
+ghost use Rattle.class_mapping.specs.Paired.{HasPairs};
+ghost use Rattle.class_mapping.specs.Related.{AreRelated};
 ghost use Rattle.object_arena.specs.Every.{classes_of};
 ghost use Rattle.object_arena.specs.Fit.{IsFit, is_of_root, link_fits, relation_of};
 ghost use Rattle.object_arena.specs.Graph.{IsLink, IsObject, object_at};
@@ -17,11 +19,13 @@ use keeper_core::{Note, Notes};
 use object_arena::{Arena, Link};
 use std::alloc::{AllocError, Global};
 
-/// The relationship at a place of a class.
+/// The relationship at a place of a class. As all relationships it has a partner that leads back, and its keys.
 pub fn relation_at(mapping: &Mapping, class: ClassId, place: RelNo) -> &Relation
     requires class { IsClass mapping.now class }
     requires place { place.0 < length (relations_of mapping.now class) }
-    ensures { result.now ≡ relation_of mapping.now class place }
+    ensures is { result.now ≡ relation_of mapping.now class place }
+    ensures paired { HasPairs mapping.now }
+    ensures related { AreRelated mapping.now }
 {
     &mapping.relations(class)[place.0 as usize]
 }

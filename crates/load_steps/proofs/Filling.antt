@@ -1,54 +1,25 @@
 -- A row fills some cell of an object that is made of it.
-use Rattle.std.proofs.Common.{◌≡◌, inl, inr, ℕ, suc, ◌+◌, ◌<◌, ◌≤◌, ◌==◌, Bool, true, false, ◌||◌, cond, List, [], ◌∷◌, length, map, Option, None, Some, is_some, refl, sym, ap, subst, ◌∙◌, arith}
+use Rattle.std.proofs.Common.{◌≡◌, inl, inr, ℕ, suc, ◌+◌, ◌<◌, ◌≤◌, ◌==◌, Bool, true, false, ◌||◌, cond, List, [], ◌∷◌, length, map, Option, None, Some, is_some, refl, sym, ap, ◌∙◌, arith}
 use Rattle.std.specs.Prelude.{slice_get}
-use Rattle.std.specs.List.{All, enumerate_from, list_any, position, position_or_len}
+use Rattle.std.specs.List.{enumerate_from, list_any, position, position_or_len}
 use Rattle.std.specs.Option.{option_and_then}
 use Rattle.std.proofs.lemmas.Bool.{and_from, eq-eqb, lt-ltb}
 use Rattle.std.proofs.lemmas.List.Folds.{find_at}
 use Rattle.std.proofs.lemmas.Option.{slice_get-get_or, slice_get_within}
 use Rattle.base_core.specs.declared.ids.ClassId.{ClassId}
-use Rattle.base_core.specs.declared.ids.TableId.{TableId}
 use Rattle.base_core.specs.declared.value.Value.{Value}
 use Rattle.base_core.specs.declared.value.Value.TheVariants as value
-use Rattle.schema_core.specs.declared.table.ColumnSpec.{ColumnSpec}
-use Rattle.schema_core.specs.Catalog.{IsTable, key_columns}
 use Rattle.class_types.specs.declared.mapped.Attribute.{Attribute}
-use Rattle.class_layouts.specs.Columns.{keys_among}
-use Rattle.class_mapping.specs.Mapped.{IsClass, Mapped, attributes_of, key_attributes, root_spec, root_table}
-use Rattle.class_mapping.proofs.Having.{Has, any_has, found_of, has_filter, some_of}
-use Rattle.mapping_laws.specs.Hierarchies.{HasHierarchies, HasTables, kinds_of}
-use Rattle.mapping_laws.proofs.KeyKinds.{key_kinds}
-use Rattle.mapping_laws.proofs.Ties.{class_tables, table_faultless}
+use Rattle.class_mapping.specs.Mapped.{Mapped, attributes_of}
+use Rattle.class_mapping.proofs.Having.{Has, any_has, found_of}
+use Rattle.mapping_laws.specs.Hierarchies.{HasHierarchies}
 use Rattle.object_arena.specs.Graph.{expired_cell}
 use Rattle.load_filling.specs.Filled.{Found, value_found, value_or_none}
 use Rattle.load_rows.specs.Loading.{found_in_row, is_same_column, is_to_fill, value_for}
 use Rattle.loading_laws.proofs.Loading.Inherited.{attribute_inherited}
 use Rattle.loading_laws.proofs.Strategies.Standing.{named_under}
+use Rattle.known_queries.proofs.Attributes.{some_attribute}
 use Rattle.load_steps.proofs.Noted.{FillsMade}
-
--- ---- a class has an attribute
-
-none_of_kinds : (columns : List ColumnSpec) (column : ColumnSpec) → kinds_of columns ≡ [] → Has columns column → ⊥
-none_of_kinds [] column e there = absurd there
-none_of_kinds (one ∷ columns) column e there = absurd cc
-
-none_mapped : {A B : Type 0} (f : A → B) (xs : List A) → xs ≡ [] → map f xs ≡ []
-none_mapped f xs e = ap (map f) e
-
-module _ (mapped : Mapped) (class : ClassId) (has : HasHierarchies mapped) (declared : IsClass mapped class) where
-  known : HasTables mapped class
-  known = class_tables mapped class has declared
-
-  root_is : IsTable mapped.schema (root_table mapped class)
-  root_is = subst (λ (tables : List TableId). All (IsTable mapped.schema) tables) known.first known.declared 0 (root_table mapped class) (omega arith)
-
-  has_some : (attributes : List Attribute) → attributes_of mapped class ≡ attributes → (attribute : Attribute) × Has (attributes_of mapped class) attribute
-  has_some [] is =
-      let keyed = some_of (λ (column : ColumnSpec). column.key) (root_spec mapped class).columns (table_faultless mapped (root_table mapped class) has root_is).keyed in
-      let none : kinds_of (key_columns (root_spec mapped class)) ≡ [] =
-      sym (key_kinds mapped class has known) ∙ none_mapped _ (key_attributes mapped class) (ap (keys_among mapped.schema.tables) is) in
-      absurd (none_of_kinds (key_columns (root_spec mapped class)) keyed.0 none (has_filter (λ (column : ColumnSpec). column.key) (root_spec mapped class).columns keyed.0 keyed.1 keyed.2))
-  has_some (attribute ∷ attributes) is = (attribute, subst (λ (all : List Attribute). Has all attribute) (sym is) (inl refl))
 
 -- ---- what a row has for it
 
@@ -81,7 +52,7 @@ some_filled found f (one ∷ attributes) k told attribute (inr more) is =
 -- a row that has a value for each attribute of its class fills a cell of the object that is made of it
 pub fills_made : (mapped : Mapped) (IsRow : ClassId → List Value → Type 0) → HasHierarchies mapped → ((class : ClassId) (row : List Value) → IsRow class row → length (attributes_of mapped class) ≤ length row) → FillsMade mapped IsRow
 fills_made mapped IsRow has wide = λ class named row declared is names.
-    let own = has_some mapped class has declared (attributes_of mapped class) refl in
+    let own = some_attribute mapped class has declared in
     let there : Has (attributes_of mapped named) own.0 = attribute_inherited mapped named class has declared (named_under mapped class named row has declared names) own.0 own.1 in
     some_filled (found_in_row mapped class row named) (value_for mapped class row) (attributes_of mapped named) 0
     (λ i j e. ap (λ (n : ℕ). value_or_none (slice_get (map (value_for mapped class row) (attributes_of mapped named)) n)) (let same : j ≡ i = omega (arith, e) in same)) own.0 there

@@ -19,7 +19,7 @@ use Rattle.class_mapping.specs.Mapped.{Mapped, attribute_of, attributes_of, root
 use Rattle.mapping_laws.specs.Hierarchies.{HasHierarchies}
 use Rattle.object_arena.specs.declared.object.Cell.{Cell}
 use Rattle.object_arena.specs.declared.object.Link.{Link}
-use Rattle.object_arena.specs.declared.object.Link.TheVariants.{Unset, Unloaded, One, Many}
+use Rattle.object_arena.specs.declared.object.Link.TheVariants.{Unset}
 use Rattle.object_arena.specs.declared.object.Object.{Object}
 use Rattle.object_arena.specs.Every.{classes_of}
 use Rattle.object_arena.specs.Graph.{Graph, cell_in, expired_cell, no_object, is_persistent, object_at, object_limit, place_of, root_at, with_object}
@@ -37,6 +37,7 @@ use Rattle.load_rows.specs.Links as links
 use Rattle.load_rows.proofs.TakenLemmas.{grows_filled}
 use Rattle.load_calls.specs.Refreshing.{found_among, found_at}
 use Rattle.load_calls.proofs.RowsLemmas.{grows_then}
+use Rattle.loading_laws.proofs.Loaders.Frames.{collection_waits, end_waits}
 use Rattle.loading_laws.specs.Strategies.Standing.{Stands}
 use Rattle.loading_laws.proofs.Strategies.KeyOrder.{key_of_stand}
 use Rattle.loading_laws.proofs.Strategies.Standing.{row_object_taken, set_related}
@@ -143,18 +144,6 @@ module _ (mapped : Mapped) (tables : held.Tables) where
       by : (other : RelNo) (b : Bool) → (other.0 == place.0) ≡ b → IsReadLink (link_in object.links other) (link_in (slice_set object.links place.0 link) other)
       by other true same = inr (ap (λ (n : ℕ). is_unloaded (slice_index_or object.links n Unset)) (eqb-true other.0 place.0 same) ∙ unloaded)
       by other false apart = inl (get_or-set_other object.links place.0 other.0 link Unset (λ e. eqb-false other.0 place.0 apart (omega (arith, e))))
-
-  collection_waits : (read : List ObjId) (link now : Link) → collection_of read link ≡ Some now → is_unloaded link ≡ true
-  collection_waits read Unset now e = absurd cc
-  collection_waits read (Unloaded added removed) now e = refl
-  collection_waits read (One end changed) now e = absurd cc
-  collection_waits read (Many members base) now e = absurd cc
-
-  end_waits : (end : Option ObjId) (link now : Link) → end_of end link ≡ Some now → is_unloaded link ≡ true
-  end_waits end Unset now e = absurd cc
-  end_waits end (Unloaded added removed) now e = refl
-  end_waits end (One other changed) now e = absurd cc
-  end_waits end (Many members base) now e = absurd cc
 
   -- ---- all objects
 
@@ -283,8 +272,8 @@ read_steps mapped tables start IsRow IsCells has rows cells = record {
   members = λ relation place owner members own related many child found arena is.
       let base : List ObjId = in_key_order own.graph members in
       let old : Link = link_at own.graph owner place in
-      link_loaded mapped tables start owner place (collection_of base old) own (λ now e. collection_waits mapped tables base old now e) is;
+      link_loaded mapped tables start owner place (collection_of base old) own (λ now e. collection_waits base old now e) is;
   ended = λ relation place owner end own related single child found arena is.
       let old : Link = link_at own.graph owner place in
-      link_loaded mapped tables start owner place (end_of end old) own (λ now e. end_waits mapped tables end old now e) is;
+      link_loaded mapped tables start owner place (end_of end old) own (λ now e. end_waits end old now e) is;
 }

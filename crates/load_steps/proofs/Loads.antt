@@ -147,7 +147,7 @@ all_noted = λ mapped load w stage can.
     let steps = noted_steps mapped (IsFullRow mapped) (AreCellsThatFit mapped) start stage.has (fills_made mapped (IsFullRow mapped) stage.has (λ class row is. is.wide)) in
     (load_leaves (full_rows mapped stage.has) steps w stage (λ object made. inr (record { made = made; same = refl })) load can).holds.is
 
-rows_of_tables : (mapped : Mapped) (tables : held.Tables) → HasHierarchies mapped → AreOfMapping mapped (IsRowOfTables mapped tables) (AreReadOfTables mapped tables)
+pub rows_of_tables : (mapped : Mapped) (tables : held.Tables) → HasHierarchies mapped → AreOfMapping mapped (IsRowOfTables mapped tables) (AreReadOfTables mapped tables)
 rows_of_tables mapped tables has = record { has = has; rows = λ class row is. is.0.of; cells = λ class attrs key row count is. is.0 count }
 
 pub all_based : LoadsFillFromRows

@@ -1,28 +1,24 @@
 -- What the rows of a query's main select that come of one row of its class have of each joined option: the rows of the option's
 -- target to which that row is tied.
-use Rattle.std.specs.Prelude.{◌≡◌, ◌<◌, Bool, true, false, List, ◌++◌, filter, length, map, Option, None, Some}
+use Rattle.std.specs.Prelude.{◌≡◌, ◌<◌, Bool, true, false, List, filter, length, map, Option, None, Some}
 use Rattle.std.specs.List.{All, AllByRecursion}
 use Rattle.base_core.specs.declared.ids.ClassId.{ClassId}
 use Rattle.base_core.specs.declared.value.Value.{Value}
 use Rattle.schema_core.specs.Tables.{same_values}
-use Rattle.expr_types.specs.declared.expr.Origin.{Origin}
-use Rattle.expr_types.specs.declared.select.Joined.{Joined}
 use Rattle.expr_types.specs.declared.select.ObjectQuery.{ObjectQuery}
-use Rattle.expr_types.specs.declared.select.Select.{Select}
 use Rattle.sql_semantics.specs.Eval.{Row, Tables, rows_in}
 use Rattle.sql_semantics.specs.Shapes.{AreLegalRows, AreRows}
 use Rattle.class_types.specs.declared.mapped.Relation.{Relation}
 use Rattle.class_sides.specs.Keys.{TableKey}
-use Rattle.class_mapping.specs.Mapped.{IsClass, Mapped, relations_of, root_table}
+use Rattle.class_mapping.specs.Mapped.{IsClass, Mapped, relations_of}
 use Rattle.class_mapping.specs.Paired.{is_at_or_under}
 use Rattle.class_mapping.specs.Related.{AreRelated, IsRelated, many_side}
 use Rattle.mapping_laws.specs.Hierarchies.{HasHierarchies}
 use Rattle.object_arena.specs.Fit.{relation_of}
 use Rattle.load_columns.specs.declared.placing.SourceColumn.{SourceColumn}
 use Rattle.load_columns.specs.Placing.{attribute_columns, columns_at, foreign_numbers, from_root, place_of_table}
-use Rattle.load_selects.specs.Selects.{inner_joined, origin_of}
-use Rattle.load_selects.specs.Sources.{other_tables}
 use Rattle.load_filling.specs.Rows.{row_key}
+use Rattle.known_queries.specs.Known.{BeginsWith}
 use Rattle.joined_rows.specs.declared.parts.Part.{Part}
 use Rattle.joined_rows.specs.Parts.{own_values, parts_of, values_from}
 use Rattle.joined_rows.specs.Taking.{has_target}
@@ -67,12 +63,6 @@ abbrev pub members_in : Mapped → Part → List Row → List Row
 members_in mapped part rows = map (λ row. own_values mapped part.target (values_from part row)) (filter (has_target mapped part) rows)
 
 -- ---- the law
-
--- the first sources of a select are the tables of a class, joined by their keys
-pub record BeginsWith (mapped : Mapped) (class : ClassId) (s : Select) : Type 0 where
-  pub more : List Joined
-  pub first : s.first ≡ origin_of (root_table mapped class)
-  pub joins : s.joins ≡ map inner_joined (other_tables mapped class (from_root 0)) ++ more
 
 -- a query for the objects of a class of a configured mapping, over tables with legal rows
 pub record HasOptions (mapped : Mapped) (read : KeyReader) (query : ObjectQuery) (tables : Tables) : Type 0 where

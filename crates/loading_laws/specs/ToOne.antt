@@ -16,7 +16,7 @@ use Rattle.class_mapping.specs.Related.{AreRelated}
 use Rattle.mapping_laws.specs.Hierarchies.{HasHierarchies}
 use Rattle.object_arena.specs.Fit.{relation_of}
 use Rattle.loading_laws.specs.Wide.Answers.{HasOnePartner}
-use Rattle.loading_laws.specs.TiedRows.{BeginsWith}
+use Rattle.known_queries.specs.Known.{BeginsWith}
 
 -- each table has its rows in the order of their keys, each key once
 abbrev pub AreInKeyOrder : Catalog → Tables → Type 0

@@ -6,4 +6,4 @@ mod queries;
 mod shifted;
 
 pub use options::option_columns;
-pub use queries::main_select;
+pub use queries::{main_select, relation_at};

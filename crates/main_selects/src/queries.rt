@@ -14,23 +14,14 @@ use class_mapping::{Mapping, Relation};
 use expr_types::{CopiedIn, ObjectQuery, Select};
 use std::alloc::{AllocError, Global};
 
-/// The relationship at a place of a class.
-fn relation_at(mapping: &Mapping, class: ClassId, place: RelNo) -> &Relation
+/// The relationship at a place of a class. The class to which it leads is declared.
+pub fn relation_at(mapping: &Mapping, class: ClassId, place: RelNo) -> &Relation
     requires class { IsClass mapping.now class }
     requires place { place.0 < length (relations_of mapping.now class) }
-    ensures { result.now ≡ relation_of mapping.now class place }
+    ensures is { result.now ≡ relation_of mapping.now class place }
+    ensures target { IsClass mapping.now (relation_of mapping.now class place).target }
 {
     &mapping.relations(class)[place.0 as usize]
-}
-
-/// The class to which it leads is declared. It does nothing when it runs.
-fn target_is_declared(mapping: &Mapping, class: ClassId, place: RelNo)
-    requires class { IsClass mapping.now class }
-    requires place { place.0 < length (relations_of mapping.now class) }
-    ensures { IsClass mapping.now (relation_of mapping.now class place).target }
-{
-    let _ = mapping.schema();
-    let _ = (class, place);
 }
 
 /// The sources and columns of the joined option at a place.
@@ -46,7 +37,6 @@ fn push_joined(
     ensures { OnOk result
         (select.new ≡ spec.with_joined mapping.now class select.old place) }
 {
-    target_is_declared(mapping, class, place);
     push_option(
         select,
         alloc,

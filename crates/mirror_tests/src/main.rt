@@ -6,10 +6,12 @@
 //! `x12` expires it. `e123*` lets link 2 of object 1 lead to object 3 (0 for none), `*` for a changed link; `m12 34/3` loads
 //! it with the members 3 and 4 over the base 3, and `l12 34/5` unloads it with the kept adds 3 and 4 and the kept remove 5.
 //! `s123` sets link 2 of object 1 to object 3, `a123` and `r123` append it and remove it. `gu1` asks for the closure of object 1
-//! along save-update (`x` for refresh-expire, `p` for expunge, `d` for delete).
+//! along save-update (`x` for refresh-expire, `p` for expunge, `d` for delete), and `gu13` for what is reached from 1 and 3.
+//! `w1` marks object 1 for deletion, `y125` puts 5 into cell 2 of object 1 as what its row holds too, and `f` asks what a flush decides.
 //!
 //! A line of the output has the answer, and behind each object's number its links: `.` for an unset one, the others as the
-//! acts have them; `!` behind the number of an orphan. Of a closure it has the objects.
+//! acts have them; `!` behind the number of an orphan. Of a closure it has the objects, and of a flush the
+//! objects that go, those that are new no more, the links that become none, and the object of which something is to be read before.
 #![tactic(auto)]
 
 mod mapping;

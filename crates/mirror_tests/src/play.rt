@@ -6,13 +6,14 @@ ghost use Rattle.object_arena.specs.Fit.{IsFit};
 ghost use Rattle.object_arena.specs.Graph.{IsObject};
 ghost use Rattle.relations.specs.Mirror.{is_unloaded, link_at};
 
-use crate::told::{reached, told, word};
+use crate::told::{say_prepared, say_reached, told, word};
 use base_core::{AttrNo, ClassId, Key, ListOf, ObjId, ObjList, ObjSet, Refusal, RelNo, Value};
-use cascades::{delete_closure, expire_closure, expunge_closure, save_closure};
+use cascades::{Flag, delete_closure, expire_closure, expunge_closure, reached, save_closure};
 use class_mapping::Mapping;
-use graph_fits::{key_fits, link_fits};
+use graph_fits::{cell_fits, key_fits, link_fits};
 use notations::Page;
 use object_arena::{Arena, Cell, Link, State};
+use prepared_objects::{next_unread, prepared};
 use relations::{append, remove, set_one};
 use std::alloc::Global;
 
@@ -134,6 +135,41 @@ fn make_orphan(arena: &mut Arena, act: &[u8]) -> Result<(), Refusal>
     Ok(())
 }
 
+/// Marks an object for deletion.
+fn mark(arena: &mut Arena, act: &[u8]) -> Result<(), Refusal>
+    ensures { (mapped : Mapped) → IsFit mapped arena.old → IsFit mapped arena.new }
+{
+    let object = ObjId(digit_at(act, 1));
+    if !is_made(arena, object) {
+        return Err(Refusal::NotBuilt);
+    }
+    let orphan = arena.object(object).orphan;
+    arena.put_marks(object, 0, true, orphan);
+    Ok(())
+}
+
+/// Puts a digit into a cell whose row holds it too.
+fn know(arena: &mut Arena, mapping: &Mapping, act: &[u8]) -> Result<(), Refusal>
+    requires fit { IsFit mapping.now arena.old }
+    ensures { IsFit mapping.now arena.new }
+{
+    let object = ObjId(digit_at(act, 1));
+    let attr = AttrNo(digit_at(act, 2));
+    let cell = Cell {
+        value: Some(Value::Int(i64::from(digit_at(act, 3)))),
+        base: Some(Value::Int(i64::from(digit_at(act, 3)))),
+    };
+    if !is_made(arena, object) || attr.0 as usize >= arena.object(object).cells.len() {
+        return Err(Refusal::NotBuilt);
+    }
+    let attributes = mapping.attributes(arena.object(object).class);
+    if !cell_fits(&attributes[attr.0 as usize], &cell) {
+        return Err(Refusal::NotBuilt);
+    }
+    arena.put_cell(object, attr, cell);
+    Ok(())
+}
+
 /// Puts a digit into a cell, or expires it.
 fn put_cell(
     arena: &mut Arena,
@@ -225,6 +261,8 @@ fn prepare(page: &mut Page, arena: &mut Arena, mapping: &Mapping, act: &[u8]) ->
         b'k' => register(page, mapping, arena, act),
         b't' => put_state(arena, act),
         b'o' => make_orphan(arena, act),
+        b'w' => mark(arena, act),
+        b'y' => know(arena, mapping, act),
         b'c' => {
             let value = Value::Int(i64::from(digit_at(act, 3)));
             put_cell(arena, mapping, act, Some(value))
@@ -296,7 +334,34 @@ fn closure(
     }
 }
 
-/// Tells the closure of an object.
+/// The flag that a letter names.
+fn flag(letter: u8) -> Flag {
+    match letter {
+        b'u' => Flag::SaveUpdate,
+        b'x' => Flag::RefreshExpire,
+        b'p' => Flag::Expunge,
+        _ => Flag::Delete,
+    }
+}
+
+/// What is reached from two objects along the flag that a letter names.
+fn reached_from(
+    alloc: Global,
+    arena: &Arena,
+    mapping: &Mapping,
+    letter: u8,
+    one: ObjId,
+    other: ObjId,
+) -> Result<ObjSet, Refusal>
+    requires fit { IsFit mapping.now arena.now }
+    requires one { IsObject arena.now one }
+    requires other { IsObject arena.now other }
+{
+    let starts = [one, other];
+    Ok(reached(alloc, arena, mapping, flag(letter), &starts)?)
+}
+
+/// Tells the closure of an object, or what is reached from it and a second one.
 fn tell_closure(
     arena: &Arena,
     mapping: &Mapping,
@@ -306,11 +371,27 @@ fn tell_closure(
     requires fit { IsFit mapping.now arena.now }
 {
     let object = ObjId(digit_at(act, 2));
+    let other = ObjId(digit_at(act, 3));
     if !is_made(arena, object) {
         return Err(Refusal::NotBuilt);
     }
-    let objects = closure(page.alloc(), arena, mapping, byte_at(act, 1), object)?;
-    reached(&objects, page);
+    let letter = byte_at(act, 1);
+    let objects = if is_made(arena, other) {
+        reached_from(page.alloc(), arena, mapping, letter, object, other)?
+    } else {
+        closure(page.alloc(), arena, mapping, letter, object)?
+    };
+    say_reached(&objects, page);
+    Ok(())
+}
+
+/// Tells what a flush decides of the objects, and of which one something is to be read before.
+fn tell_decided(arena: &Arena, mapping: &Mapping, page: &mut Page) -> Result<(), Refusal>
+    requires fit { IsFit mapping.now arena.now }
+{
+    let prepared = prepared(page.alloc(), arena, mapping)?;
+    let unread = next_unread(page.alloc(), arena, mapping)?;
+    say_prepared(&prepared, unread, page);
     Ok(())
 }
 
@@ -341,6 +422,9 @@ fn play(arena: &mut Arena, mapping: &Mapping, line: &str, page: &mut Page) -> Re
         }
         if byte_at(act, 0) == b'g' {
             return tell_closure(arena, mapping, act, page);
+        }
+        if byte_at(act, 0) == b'f' {
+            return tell_decided(arena, mapping, page);
         }
         prepare(page, arena, mapping, act)?;
     }

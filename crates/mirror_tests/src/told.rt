@@ -3,6 +3,7 @@
 use base_core::{ObjId, ObjList, ObjSet, Refusal, RequestKind};
 use notations::Page;
 use object_arena::{Arena, Link, Object};
+use object_rows::Prepared;
 
 /// A number of one digit.
 fn say_number(page: &mut Page, number: u32) {
@@ -93,9 +94,29 @@ pub(crate) fn told(arena: &Arena, page: &mut Page) {
 }
 
 /// The objects of a closure, by their numbers.
-pub(crate) fn reached(objects: &ObjSet, page: &mut Page) {
+pub(crate) fn say_reached(objects: &ObjSet, page: &mut Page) {
     page.put("Reaches ");
     for object in objects.as_slice() {
         say_number(page, object.0);
+    }
+}
+
+/// What a flush decides: the objects that go, those that are new no more, the links that become none, and the object of which something
+/// is to be read before, or 0.
+pub(crate) fn say_prepared(prepared: &Prepared, unread: Option<ObjId>, page: &mut Page) {
+    page.put("Goes ");
+    say_objects(page, &prepared.deleted);
+    page.put(" drops ");
+    say_objects(page, &prepared.transient);
+    page.put(" clears");
+    for cleared in prepared.cleared.as_slice() {
+        page.push(' ');
+        say_number(page, cleared.0.0);
+        say_number(page, cleared.1.0);
+    }
+    page.put(" reads ");
+    match unread {
+        Some(object) => say_number(page, object.0),
+        None => page.push('0'),
     }
 }

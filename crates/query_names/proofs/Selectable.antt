@@ -3,7 +3,6 @@ use Rattle.std.proofs.Common.{append-nil, append_assoc, ◌≡◌, ℕ, List, []
 use Rattle.std.proofs.lemmas.List.{map-append}
 use Rattle.base_core.specs.Answers.{Gives}
 use Rattle.base_core.specs.declared.ids.ClassId.{ClassId}
-use Rattle.base_core.specs.declared.refusal.Refusal.{Refusal}
 use Rattle.expr_types.specs.NormalSelect.{normal_join}
 use Rattle.expr_types.specs.Normal.{normal}
 use Rattle.expr_types.specs.declared.expr.Expr.{Expr}
@@ -26,7 +25,6 @@ use Rattle.collection_selects.proofs.Rows.{reads_rows}
 use Rattle.main_selects.specs.MainSelect.{main_select}
 use Rattle.load_queries.specs.Queries.{ReadsObjects}
 use Rattle.load_queries.specs.Selectin.{IsSelectable}
-use Rattle.script_names.specs.Faults.{unless}
 use Rattle.script_types.specs.declared.select.SynQuery.{SynQuery}
 use Rattle.command_names.specs.Attributes.{class_named}
 use Rattle.command_names.specs.Terms.{found_or_unknown}
@@ -35,21 +33,8 @@ use Rattle.query_names.specs.declared.sources.QuerySources.{QuerySources}
 use Rattle.query_names.specs.Judging.{query_faults}
 use Rattle.query_names.specs.Queries.{HasOptions, Parts, judged_query, named_query, named_under, normal_query, parts_said, query_of, resolved_query}
 use Rattle.query_names.specs.Scopes.{class_meant}
+use Rattle.query_names.proofs.Answered.{ok_after, ok_then, ok_unless}
 use Rattle.query_names.specs.Sources.{class_alone, relation_named, scope_of, source_count, with_join, with_joins, with_named, with_relation}
-
--- ---- what is answered behind an answer
-
-ok_then : {A B : Type 0} (P : B → Type 0) (told : Checked A) (next : A → Checked B) → ((a : A) → IfOk (next a) P) → IfOk (told >>= next) P
-ok_then P (Ok a) next h = h a
-ok_then P (Err e) next h = tt
-
-ok_after : {A B : Type 0} (P : A → Type 0) (Q : B → Type 0) (told : Checked A) (next : A → Checked B) → IfOk told P → ((a : A) → P a → IfOk (next a) Q) → IfOk (told >>= next) Q
-ok_after P Q (Ok a) next first h = h a first
-ok_after P Q (Err e) next first h = tt
-
-ok_unless : {A : Type 0} (P : A → Type 0) (faults : List Refusal) (a : A) → P a → IfOk (unless faults a) P
-ok_unless P [] a h = h
-ok_unless P (fault ∷ faults) a h = tt
 
 -- ---- normal forms
 
@@ -69,22 +54,25 @@ items_stay (column ∷ columns) =
 abbrev origins : List Joined → List Origin
 origins joins = map (λ (join : Joined). join.origin) joins
 
-origins_stay : (joins : List Joined) → origins (map normal_join joins) ≡ origins joins
+pub origins_stay : (joins : List Joined) → origins (map normal_join joins) ≡ origins joins
 origins_stay [] = refl
 origins_stay (join ∷ joins) = ap (λ (more : List Origin). join.origin ∷ more) (origins_stay joins)
 
 -- ---- sources
 
-module _ (mapped : Mapped) (class : ClassId) where
-  -- the other tables of the class stand first
-  record Begins (sources : QuerySources) : Type 0 where
-    more : List Further
-    is : sources.further ≡ other_tables mapped class (from_root 0) ++ more
+-- the other tables of the class stand first
+pub record Begins (mapped : Mapped) (class : ClassId) (sources : QuerySources) : Type 0 where
+  pub more : List Further
+  pub is : sources.further ≡ other_tables mapped class (from_root 0) ++ more
 
-  alone_begins : Begins (class_alone mapped class)
+module _ (mapped : Mapped) (class : ClassId) where
+  abbrev HasFirst : QuerySources → Type 0
+  HasFirst = Begins mapped class
+
+  pub alone_begins : Begins mapped class (class_alone mapped class)
   alone_begins = record { more = []; is = sym (append-nil (other_tables mapped class (from_root 0))) }
 
-  relation_begins : (owner : PlacedClass) (relation : Relation) (sources : QuerySources) → Begins sources → Begins (with_relation mapped owner relation sources)
+  relation_begins : (owner : PlacedClass) (relation : Relation) (sources : QuerySources) → HasFirst sources → HasFirst (with_relation mapped owner relation sources)
   relation_begins owner relation sources first =
       let further : List Further = related_sources mapped owner.class owner.placement relation (source_count sources) in
       record {
@@ -92,20 +80,20 @@ module _ (mapped : Mapped) (class : ClassId) where
         is = ap (λ (all : List Further). all ++ further) first.is ∙ append_assoc (other_tables mapped class (from_root 0)) first.more further;
       }
 
-  named_begins : (name : List ℕ) (sources : QuerySources) (owner : PlacedClass) → Begins sources → IfOk (with_named mapped name sources owner) Begins
+  named_begins : (name : List ℕ) (sources : QuerySources) (owner : PlacedClass) → HasFirst sources → IfOk (with_named mapped name sources owner) HasFirst
   named_begins name sources owner first =
-      ok_then Begins (relation_named mapped owner.class name) (λ place. Ok (with_relation mapped owner (relation_of mapped owner.class place) sources))
+      ok_then HasFirst (relation_named mapped owner.class name) (λ place. Ok (with_relation mapped owner (relation_of mapped owner.class place) sources))
       (λ place. relation_begins owner (relation_of mapped owner.class place) sources first)
 
-  join_begins : (join : List ℕ × List ℕ) (sources : QuerySources) → Begins sources → IfOk (with_join mapped sources join) Begins
+  join_begins : (join : List ℕ × List ℕ) (sources : QuerySources) → HasFirst sources → IfOk (with_join mapped sources join) HasFirst
   join_begins join sources first =
-      ok_then Begins (found_or_unknown join.0 (class_meant mapped sources.classes join.0)) (with_named mapped join.1 sources)
+      ok_then HasFirst (found_or_unknown join.0 (class_meant mapped sources.classes join.0)) (with_named mapped join.1 sources)
       (λ owner. named_begins join.1 sources owner first)
 
-  joins_begin : (joins : List (List ℕ × List ℕ)) (sources : QuerySources) → Begins sources → IfOk (with_joins mapped sources joins) Begins
+  pub joins_begin : (joins : List (List ℕ × List ℕ)) (sources : QuerySources) → Begins mapped class sources → IfOk (with_joins mapped sources joins) (Begins mapped class)
   joins_begin [] sources first = first
   joins_begin (join ∷ joins) sources first =
-      ok_after Begins Begins (with_join mapped sources join) (λ more. with_joins mapped more joins) (join_begins join sources first) (λ more. joins_begin joins more)
+      ok_after HasFirst HasFirst (with_join mapped sources join) (λ more. with_joins mapped more joins) (join_begins join sources first) (λ more. joins_begin joins more)
 
 -- ---- queries
 
@@ -114,7 +102,7 @@ module _ (mapped : Mapped) (has : HasHierarchies mapped) where
   abbrev Reads : ObjectQuery → Type 0
   Reads query = IsClass mapped query.class → ReadsObjects mapped query.class query.select
 
-  query_reads : (class : ClassId) (sources : QuerySources) (written : SynQuery) (parts : Parts) → Begins mapped class sources → Reads (normal_query (query_of mapped class sources written parts))
+  pub query_reads : (class : ClassId) (sources : QuerySources) (written : SynQuery) (parts : Parts) → Begins mapped class sources → Reads (normal_query (query_of mapped class sources written parts))
   query_reads class sources written parts first = λ less.
       let own : List Joined = map inner_joined (other_tables mapped class (from_root 0)) in
       let further : List Joined = map inner_joined first.more in
@@ -154,7 +142,7 @@ module _ (mapped : Mapped) (has : HasHierarchies mapped) where
   unfolding resolved_query
   resolved_reads written =
       ok_after ReadsNormal Reads (named_query mapped written) (judged_query mapped) (named_reads written)
-      (λ query. λ reads. ok_unless Reads (query_faults mapped query) (normal_query query) reads)
+      (λ query reads. ok_unless Reads (query_faults mapped query) (normal_query query) (λ none. reads))
 
   -- a query that a line says can be answered with its options
   pub selectable : (written : SynQuery) (r : Checked ObjectQuery) → Gives (λ (query : ObjectQuery). query) r (resolved_query mapped written) → IfOk r (λ query. IsClass mapped query.class) → IfOk r (HasOptions mapped)

@@ -4,6 +4,7 @@ ghost use Rattle.std.specs.Prelude.{◌≡◌, ◌<◌, length, IfErr, IfOk, IsT
 ghost use Rattle.std.specs.List.{All};
 ghost use Rattle.base_core.specs.Answers.{Gives};
 ghost use Rattle.class_mapping.specs.Mapped.{IsClass, relations_of};
+ghost use Rattle.known_queries.specs.Known.{ReadsJoined};
 ghost use Rattle.load_queries.specs.Selectin.{IsSelectable};
 ghost use Rattle.main_selects.specs.MainSelect.{main_select};
 ghost use Rattle.script_resolve.specs.Refusals.{CanRefuse};
@@ -352,6 +353,8 @@ pub fn resolve_query(
     ensures told { Gives (λ query. query) result (spec.resolved_query mapping.now written.now) }
     ensures cause { IfErr result IsOfQueries }
     ensures selectable { IfOk result (IsSelectable mapping.now) }
+    // Its rows are known by the tables.
+    ensures readable { IfOk result (ReadsJoined mapping.now) }
 {
     let _configured = mapping.schema();
     plain_query(alloc, mapping, written)

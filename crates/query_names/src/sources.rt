@@ -15,6 +15,7 @@ use class_mapping::{Mapping, Relation};
 use command_names::{Member, member_named, wrong_kind};
 use load_columns::from_root;
 use load_selects::{Further, other_tables, related_sources, target_placement};
+use main_selects::relation_at;
 use script_names::unknown;
 use sqlite_items::Items;
 use std::alloc::{AllocError, Global};
@@ -102,25 +103,6 @@ fn join_relation(
     sources.further.append(Items::from_vec(further.into_vec()))
 }
 
-/// The relationship at a place of a class.
-pub(crate) fn relation_at(mapping: &Mapping, class: ClassId, place: RelNo) -> &Relation
-    requires class { IsClass mapping.now class }
-    requires place { place.0 < length (relations_of mapping.now class) }
-    ensures { result.now ≡ relation_of mapping.now class place }
-{
-    &mapping.relations(class)[place.0 as usize]
-}
-
-/// The class to which it leads is declared. It does nothing when it runs.
-fn target_is_declared(mapping: &Mapping, class: ClassId, place: RelNo)
-    requires class { IsClass mapping.now class }
-    requires place { place.0 < length (relations_of mapping.now class) }
-    ensures { IsClass mapping.now (relation_of mapping.now class place).target }
-{
-    let _ = mapping.schema();
-    let _ = (class, place);
-}
-
 /// The relationship at a place of one of the classes is joined.
 #[tactic(auto, using(crate::proofs::Standing::standing))]
 fn join_place(
@@ -137,7 +119,6 @@ fn join_place(
         (relation_of mapping.now owner.class place) sources.old) }
     ensures declared { OnOk result (AreDeclared mapping.now sources.new.classes) }
 {
-    target_is_declared(mapping, owner.class, place);
     let relation = relation_at(mapping, owner.class, place);
     join_relation(sources, alloc, mapping, owner, relation)
 }

@@ -30,7 +30,7 @@ use Rattle.load_selects.specs.Sources.{other_tables}
 use Rattle.collection_selects.proofs.Placed.{attributes_there}
 use Rattle.collection_selects.proofs.Plain.{IsColumn}
 use Rattle.collection_selects.specs.Collections.{members_by, members_select, owner_columns, pair_columns, pair_members, secondary_behind}
-use Rattle.loading_laws.specs.TiedRows.{BeginsWith}
+use Rattle.known_queries.specs.Known.{BeginsWith}
 use Rattle.loading_laws.specs.Wide.Answers.{AreOfSources}
 use Rattle.loading_laws.specs.Wide.Parts.{cells}
 use Rattle.loading_laws.proofs.Members.Choices.{chosen}
@@ -40,7 +40,7 @@ use Rattle.loading_laws.proofs.Wide.Conditions.{IsColumnIn}
 use Rattle.loading_laws.proofs.Wide.Main.{items_lack}
 use Rattle.table_laws.specs.Legality.{AreSound}
 use Rattle.load_steps.specs.Based.{IsRowOfTables}
-use Rattle.ranked_rows.specs.Queries.{ReadsClass}
+use Rattle.known_queries.specs.Known.{ReadsClass}
 use Rattle.ranked_rows.proofs.Answered.{answered_have}
 use Rattle.ranked_rows.proofs.Choices.{all_legal, held_rows, is_table_row}
 

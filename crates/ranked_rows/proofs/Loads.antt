@@ -14,9 +14,8 @@ use Rattle.load_steps.specs.Rows.{AnswerRows}
 use Rattle.load_steps.specs.Steps.{AreLoadSteps, IsArena}
 use Rattle.load_steps.proofs.Based.{based_steps}
 use Rattle.load_steps.proofs.Filling.{fills_made}
-use Rattle.load_steps.proofs.Lasting.{AreOfMapping}
 use Rattle.load_steps.proofs.Loaded.{none_read, read_steps}
-use Rattle.load_steps.proofs.Loads.{load_leaves}
+use Rattle.load_steps.proofs.Loads.{load_leaves, rows_of_tables}
 use Rattle.load_steps.proofs.Noted.{noted_steps}
 use Rattle.ranked_rows.specs.Loads.{CanLoadOver, LoadsOverLegalTables}
 use Rattle.ranked_rows.proofs.Cells.{cells_answered}
@@ -33,9 +32,6 @@ answer_rows mapped tables has sound = record {
   members = λ relation key related many. members mapped tables sound has relation related.target key;
   batches = λ relation keys related many. batches mapped tables sound has relation related keys;
 }
-
-rows_of_tables : (mapped : Mapped) (tables : held.Tables) → HasHierarchies mapped → AreOfMapping mapped (IsRowOfTables mapped tables) (AreReadOfTables mapped tables)
-rows_of_tables mapped tables has = record { has = has; rows = λ class row is. is.0.of; cells = λ class attrs key row count is. is.0 count }
 
 no_steps : (mapped : Mapped) (tables : held.Tables) → AreLoadSteps mapped (IsRowOfTables mapped tables) (AreReadOfTables mapped tables) (λ own. Unit {0})
 no_steps mapped tables = record {

@@ -36,7 +36,7 @@ use Rattle.joined_rows.specs.Taking.{are_given, has_target}
 use Rattle.table_laws.specs.Legality.{AreSound}
 use Rattle.load_steps.specs.Rows.{IsJoinedOf}
 use Rattle.loading_laws.specs.TiedRows.{KeyReader}
-use Rattle.loading_laws.specs.Wide.Answers.{AreAnswered, AreOfSources, CanBeJoined, joined_row, joined_rows, options_columns, options_sources, own_columns, query_partners}
+use Rattle.loading_laws.specs.Wide.Answers.{AreAnswered, AreOfSources, joined_row, joined_rows, options_columns, options_sources, own_columns, query_partners}
 use Rattle.loading_laws.specs.Wide.Parts.{cell, cells}
 use Rattle.loading_laws.specs.Wide.Partners.{partners}
 use Rattle.loading_laws.proofs.Loading.Inherited.{reads_keys}
@@ -50,12 +50,13 @@ use Rattle.loading_laws.proofs.TiedRows.Partnered.{member_at, member_ranked, tar
 use Rattle.loading_laws.proofs.TiedRows.Ranked.{HasTarget, IsOption, by_rank}
 use Rattle.loading_laws.proofs.Wide.Blocks.{answered_created, joined_own}
 use Rattle.loading_laws.proofs.Wide.Lefts.{every_flat}
-use Rattle.loading_laws.proofs.Wide.Main.{main_multiplies}
+use Rattle.loading_laws.proofs.Wide.Main.{HasColumns, main_multiplies}
 use Rattle.load_steps.specs.Based.{IsRowOfTables}
-use Rattle.ranked_rows.specs.Queries.{ReadsJoined}
+use Rattle.known_queries.specs.Known.{ReadsJoined}
 use Rattle.ranked_rows.proofs.Answered.{left_have}
 use Rattle.ranked_rows.proofs.Choices.{all_legal, held_rows, is_table_row, under_own}
 use Rattle.ranked_rows.proofs.Classes.{sourced_row}
+use Rattle.ranked_rows.proofs.Columns.{main_inside, own_inside}
 
 -- what a row has of a foreign key
 abbrev read : Mapped → KeyReader
@@ -224,11 +225,13 @@ module _ (mapped : Mapped) (tables : held.Tables) (sound : AreSound mapped.schem
 
       by : (r : Checked (List Row)) → answer mapped.schema (bare tables) (main_select mapped query) ≡ r → IfOk r (AllByRecursion IsJoined)
       by (Ok rows) told =
-          let can : CanBeJoined mapped (bare tables) query = record {
+          let first = stands_first mapped query.class (bare tables) s has is.own.class (held_rows mapped tables sound) (all_legal mapped tables sound) is.own.begins in
+          let can : HasColumns mapped (bare tables) query = record {
             reads = is.own.reads;
-            plain = is.plain;
             single = is.own.single;
-            main = is.main;
+            own = own_inside mapped query has related is first.stands;
+            finds = is.finds;
+            main = main_inside mapped query has related is first.stands;
             held = held_rows mapped tables sound;
             created = answered_created mapped.schema (bare tables) (main_select mapped query) rows told;
           } in

@@ -7,7 +7,7 @@ use Rattle.mapping_laws.specs.Hierarchies.{HasHierarchies}
 use Rattle.table_laws.specs.Legality.{AreSound}
 use Rattle.load_steps.specs.Rows.{AnswerRows, AnswersJoined, AnswersOwn}
 use Rattle.load_steps.specs.Based.{AreReadOfTables, IsRowOfTables}
-use Rattle.ranked_rows.specs.Queries.{ReadsClass, ReadsJoined}
+use Rattle.known_queries.specs.Known.{ReadsClass, ReadsJoined}
 
 -- The selects by which links and cells are loaded answer rows of their classes, and what these have stands in the tables.
 abbrev pub SelectsAnswerTableRows : Type 0

@@ -1,3 +1,2 @@
 pub mod Laws
 pub mod Loads
-pub mod Queries

@@ -12,7 +12,7 @@ use Rattle.load_steps.specs.Loaded.{AreReadFrom}
 use Rattle.load_steps.specs.Loads.{CanLoad, Load, Objects, Query, after_load}
 use Rattle.load_steps.specs.Noted.{AreNotedSince}
 use Rattle.load_steps.specs.Steps.{IsArena}
-use Rattle.ranked_rows.specs.Queries.{ReadsClass, ReadsJoined}
+use Rattle.known_queries.specs.Known.{ReadsClass, ReadsJoined}
 
 -- what a load is asked for; a query reads the objects of its class, and with joined options its main select may be sent
 abbrev pub CanLoadOver : Mapped → World → Load → Type 0

@@ -1,6 +1,7 @@
 pub mod Answers
 pub mod Built
 pub mod Late
+pub mod Linked
 pub mod Performed
 pub mod Readings
 pub mod Resolved

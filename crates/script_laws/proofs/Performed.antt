@@ -7,7 +7,6 @@ use Rattle.std.proofs.lemmas.List.Elements.{recursion_from_All}
 use Rattle.base_core.specs.declared.ids.AttrNo.{AttrNo}
 use Rattle.base_core.specs.declared.ids.ClassId.{ClassId}
 use Rattle.base_core.specs.declared.ids.ObjId.{ObjId}
-use Rattle.base_core.specs.declared.ids.RelNo.{RelNo}
 use Rattle.base_core.specs.declared.ids.TableId.{TableId}
 use Rattle.base_core.specs.declared.refusal.LimitKind.TheVariants.{Objects}
 use Rattle.base_core.specs.declared.refusal.Refusal.{Refusal}
@@ -33,8 +32,14 @@ use Rattle.session_calls.proofs.Joining.{goes_itself}
 use Rattle.session_acts.specs.Steps as acts
 use Rattle.session_acts.specs.Steps.{flush_whole}
 use Rattle.session_tables.specs.Dump.{Filled, scan_each, scan_one, scan_tables}
-use Rattle.session_links.specs.Steps.{read_related}
+use Rattle.relations.specs.declared.calls.LinkCall.TheVariants.{Append, Remove, Set}
+use Rattle.session_links.specs.Reading.{AreToldMade}
 use Rattle.session_links.specs.declared.reading.Related.{Related}
+use Rattle.session_links.specs.declared.reading.Related.TheVariants.{Many, One}
+use Rattle.load_queries.specs.Selectin.{IsOption}
+use Rattle.session_loads.specs.Queries.{select_objects}
+use Rattle.session_loads.specs.Reads.{change_collection, get, read_cell, read_related, refresh}
+use Rattle.session_load_laws.specs.Readings.{GetsTellMade, IsPlace, LinksTellMade, QueriesTellMade, Reading, ReadingsGoOn, ReadingsKeepWhole}
 use Rattle.session_acts.specs.Savepoints.{begin_savepoint, enter_nested}
 use Rattle.session_tables.specs.declared.tables.TableChange.TheVariants.{Create, Drop}
 use Rattle.session_objects.specs.ValueSteps.{given_fault, made_unless, valid_made}
@@ -57,6 +62,7 @@ use Rattle.session_laws.proofs.Whole.Keeping.{Holds}
 use Rattle.session_laws.proofs.Whole.Programs as keeps
 use Rattle.session_laws.proofs.Whole.Since.{IsKeyedSince, since_steps}
 use Rattle.script_laws.specs.Lines.{LinesKeepWhole}
+use Rattle.script_laws.proofs.Linked.{end_made, link_declared, link_there}
 use Rattle.script_laws.proofs.Resolved.{Asks}
 
 -- ---- what is told of an answer changes nothing
@@ -194,7 +200,20 @@ pub record IsLeft (names : Bindings) (run : Run World Answer) : Type 0 where
   pub bound : AreBound (Configured run.after.own) names
   pub told : (a : Answer) → run.answer ≡ Ok a → IsBound run.after.own a
 
-module _ (law : CallsKeepWhole) (rules : Rules) (names : Bindings) where
+-- the laws of calls that read rows into objects
+pub record ReadingLaws : Type 0 where
+  pub whole : ReadingsKeepWhole
+  pub goes : ReadingsGoOn
+  pub keys : GetsTellMade
+  pub queries : QueriesTellMade
+  pub links : LinksTellMade
+
+-- what was read can be bound
+bound_link : (v : World) → IsHale v → (name : List ℕ) (related : Related) → AreToldMade v.own.graph related → IsBound v.own (answer.Bind name (link_shown v.own.graph related))
+bound_link v hale name related made =
+    (link_there v.own.mapping v.own.graph v.own.drawn.drawn hale.keyed.fit related made, link_declared v.own.mapping v.own.graph v.own.drawn.drawn hale.keyed.fit related made)
+
+module _ (law : CallsKeepWhole) (reads : ReadingLaws) (rules : Rules) (names : Bindings) where
   called : (call : Call) (w : World) → IsHale w → IsCallOf call w → IsHale (after_call rules call w)
   called call w hale of = law rules (call ∷ []) w hale (of, tt)
 
@@ -239,18 +258,16 @@ module _ (law : CallsKeepWhole) (rules : Rules) (names : Bindings) where
             subst (IsBound (telling tell m w).after.own) from.2 (told_after (λ v. IsBound v.own (tell from.0)) tell m w there);
       }
 
-  -- what a link leads to is shown
-  shown_from : {A : Type 0} (events : List Event) (v : World) (r : Result A Refusal) (tell : A → SessionState → Answer) → ((own : SessionState) (a : A) → IsBound own (tell a own)) → IsHale v → AreBound (Configured v.own) names → IsLeft names (continue_from events v r (λ a. as_it_is (tell a)))
+  -- what was read is shown, or bound
+  shown_from : {A : Type 0} (events : List Event) (v : World) (r : Result A Refusal) (tell : A → SessionState → Answer) → ((a : A) → r ≡ Ok a → IsBound v.own (tell a v.own)) → IsHale v → AreBound (Configured v.own) names → IsLeft names (continue_from events v r (λ a. as_it_is (tell a)))
   unfolding by_own give
-  shown_from events v (Ok a) tell binds hale bound = record { hale = hale; bound = bound; told = λ b is. subst (IsBound v.own) (let same : tell a v.own ≡ b = cc in same) (binds v.own a) }
+  shown_from events v (Ok a) tell binds hale bound = record { hale = hale; bound = bound; told = λ b is. subst (IsBound v.own) (let same : tell a v.own ≡ b = cc in same) (binds a refl) }
   shown_from events v (Err e) tell binds hale bound = record { hale = hale; bound = bound; told = λ b is. absurd cc }
 
-  link_left : (object : ObjId) (relation : RelNo) (w : World) → IsHale w → AreBound (Configured w.own) names → IsLeft names (program_of_resolved rules (resolved.ShowLink object relation) w)
+  read_left : {A : Type 0} (m : World → Run World A) (tell : A → SessionState → Answer) (w : World) → AreBound (Configured w.own) names → IsHale (m w).after → GoesOn w.own (m w).after.own
+      → ((a : A) → (m w).answer ≡ Ok a → IsBound (m w).after.own (tell a (m w).after.own)) → IsLeft names ((m >>= λ a. as_it_is (tell a)) w)
   unfolding ◌>>=◌
-  link_left object relation w hale bound =
-      let run : Run World Related = read_related object relation w in
-      let same = ((keeps.reads_links (IsKeyedSince w.own) (since_steps w.own) object relation).kept w (record { keyed = hale.keyed; same = goes_itself w.own })).same in
-      shown_from run.events run.after run.answer (λ related session. answer.Thing (link_shown session.graph related)) (λ own related. tt) (called (Call.ReadLink object relation) w hale tt) (bound_same names w.own run.after.own same bound)
+  read_left m tell w bound hale goes binds = shown_from (m w).events (m w).after (m w).answer tell binds hale (bound_same names w.own (m w).after.own goes bound)
 
   as_it_was : (a : Answer) (w : World) → ((own : SessionState) → IsBound own a) → IsHale w → AreBound (Configured w.own) names → IsLeft names (give a w)
   unfolding give
@@ -272,18 +289,40 @@ module _ (law : CallsKeepWhole) (rules : Rules) (names : Bindings) where
     line_left resolved.DropAll asks = kept_left _ _ w (λ own a. tt) hale bound (called (Call.ChangeTables Drop) w hale tt) (keeps.changes_tables P steps Drop)
     line_left resolved.Dump asks = told_left answer.Tables scan_tables w (λ own a. tt) bound (dump_hale w hale) (dump_goes_on w)
     line_left (resolved.New name class cells) asks = made_left name class cells w hale asks bound
+    line_left (resolved.Get name class key) asks =
+        let after = reads.whole (Reading.Key class key) w asks hale in
+        read_left (get class key) (λ found session. answer.Bind name (link_shown session.graph (One found))) w bound after (reads.goes (Reading.Key class key) w asks hale)
+        (λ found is. bound_link (get class key w).after after name (One found) (end_made (get class key w).after.own.graph found (reads.keys class key found w asks hale is)))
+    line_left (resolved.Objects name query) asks =
+        let after = reads.whole (Reading.Objects query) w asks hale in
+        read_left (select_objects query) (λ objects session. answer.Bind name (link_shown session.graph (Many objects))) w bound after (reads.goes (Reading.Objects query) w asks hale)
+        (λ objects is. bound_link (select_objects query w).after after name (Many objects) (reads.queries query objects w asks hale is))
+    line_left (resolved.Related name object relation) asks =
+        let place : IsPlace object relation w.own = record { made = asks.0; there = asks.1 } in
+        let after = reads.whole (Reading.Link object relation) w place hale in
+        read_left (read_related object relation) (λ related session. answer.Bind name (link_shown session.graph related)) w bound after (reads.goes (Reading.Link object relation) w place hale)
+        (λ related is. bound_link (read_related object relation w).after after name related (reads.links object relation related w place hale is))
     line_left (resolved.BeginNested name) asks = nested_left name w hale bound
     line_left (resolved.SetCell object attr value) asks =
         let inside = has_attribute object attr asks.0 asks.1 asks.2 in
         told_left _ _ w (λ own a. tt) bound (called (Call.Set object attr value) w hale (asks.1.0, inside))
         (keeps.sets P steps object attr value rules w inside (record { keyed = hale.keyed; same = goes_itself w.own })).same
-    line_left (resolved.ChangeLink owner relation change) asks =
-        told_left _ _ w (λ own a. tt) bound (called (Call.ChangeLink owner relation change) w hale asks) (keeps.links P steps owner relation change w asks (record { keyed = hale.keyed; same = goes_itself w.own })).same
+    line_left (resolved.ChangeLink owner relation (Set end)) asks =
+        told_left _ _ w (λ own a. tt) bound (called (Call.ChangeLink owner relation (Set end)) w hale asks) (keeps.links P steps owner relation (Set end) w asks (record { keyed = hale.keyed; same = goes_itself w.own })).same
+    line_left (resolved.ChangeLink owner relation (Append member)) asks =
+        told_left _ (change_collection owner relation (Append member)) w (λ own a. tt) bound (reads.whole (Reading.Change owner relation (Append member)) w asks hale) (reads.goes (Reading.Change owner relation (Append member)) w asks hale)
+    line_left (resolved.ChangeLink owner relation (Remove member)) asks =
+        told_left _ (change_collection owner relation (Remove member)) w (λ own a. tt) bound (reads.whole (Reading.Change owner relation (Remove member)) w asks hale) (reads.goes (Reading.Change owner relation (Remove member)) w asks hale)
     line_left (resolved.Add object) asks = kept_left _ _ w (λ own a. tt) hale bound (called (Call.Add object) w hale asks) (keeps.adds P steps object)
     line_left (resolved.Delete object) asks = kept_left _ _ w (λ own a. tt) hale bound (called (Call.Delete object) w hale asks) (keeps.deletes P steps object)
+    line_left (resolved.Refresh object) asks =
+        told_left _ (refresh object) w (λ own a. tt) bound (reads.whole (Reading.Anew object) w asks hale) (reads.goes (Reading.Anew object) w asks hale)
     line_left (resolved.Show thing) asks = as_it_was (answer.Thing thing) w (λ own. tt) hale bound
-    line_left (resolved.ShowCell object attr) asks = kept_left answer.Value _ w (λ own a. tt) hale bound (called (Call.Read object attr) w hale asks) (keeps.reads P steps object attr)
-    line_left (resolved.ShowLink object relation) asks = link_left object relation w hale bound
+    line_left (resolved.ShowCell object attr) asks =
+        told_left answer.Value (read_cell object attr) w (λ own a. tt) bound (reads.whole (Reading.Cell object attr) w asks hale) (reads.goes (Reading.Cell object attr) w asks hale)
+    line_left (resolved.ShowLink object relation) asks =
+        let place : IsPlace object relation w.own = record { made = asks.0; there = asks.1 } in
+        read_left (read_related object relation) (λ related session. answer.Thing (link_shown session.graph related)) w bound (reads.whole (Reading.Link object relation) w place hale) (reads.goes (Reading.Link object relation) w place hale) (λ related is. tt)
     line_left (resolved.State object) asks = as_it_was (answer.State (object_at w.own.graph object).state) w (λ own. tt) hale bound
     line_left (resolved.Same object other) asks = as_it_was _ w (λ own. tt) hale bound
     line_left resolved.Flush asks = kept_left _ _ w (λ own a. tt) hale bound (called Call.Flush w hale tt) (keeps.flushes P steps)
@@ -303,9 +342,15 @@ ready_asks own (resolved.SetCell object attr value) ready = ((object_at own.grap
 ready_asks own (resolved.ChangeLink owner relation change) ready = record { made = ready.0.0; there = ready.0.1.0; form = ready.0.1.1; end = ready.1 }
 ready_asks own (resolved.Add object) ready = ready
 ready_asks own (resolved.Delete object) ready = ready
+ready_asks own (resolved.Get name class key) ready = ready.0
+ready_asks own (resolved.Objects name query) ready =
+    (ready.1, recursion_from_All (IsOption own.mapping query.class) query.joined ready.0.joined, recursion_from_All (IsOption own.mapping query.class) query.selectin ready.0.selectin)
+ready_asks own (resolved.Related name object relation) ready = ready
+ready_asks own (resolved.Refresh object) ready = ready
 ready_asks own (resolved.ShowCell object attr) ready = ready.0
+ready_asks own (resolved.ShowLink object relation) ready = ready
 ready_asks own (resolved.Bulk statement) ready = plain_but_for_keys own.mapping.schema statement ready.0 ready.1
 ready_asks own _ ready = tt
 
-pub lines_law : CallsKeepWhole → LinesKeepWhole
-lines_law law rules line w hale ready = (line_left law rules [] w hale ((λ name thing is. absurd cc), (λ name thing is. absurd cc)) line (ready_asks w.own line ready)).hale
+pub lines_law : CallsKeepWhole → ReadingLaws → LinesKeepWhole
+lines_law law reads rules line w hale ready = (line_left law reads rules [] w hale ((λ name thing is. absurd cc), (λ name thing is. absurd cc)) line (ready_asks w.own line ready)).hale

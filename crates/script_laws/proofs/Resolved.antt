@@ -1,23 +1,18 @@
 -- What a line asks for names what is there, where the names stand for what is there.
-use Rattle.std.proofs.Common.{◌≡◌, ◌<◌, ℕ, Bool, true, false, List, [], ◌∷◌, ◌++◌, length, Option, None, Some, Ok, Err, refl, sym, ap, ◌∙◌, subst}
-use Rattle.std.specs.Prelude.{IsTrue, if◌then◌else◌, is_none, slice_get, slice_index_or}
-use Rattle.std.specs.Option.{option_map}
-use Rattle.std.specs.List.{AllByRecursion, position}
-use Rattle.std.proofs.lemmas.List.Quantifiers.{position-Some}
-use Rattle.std.proofs.lemmas.Option.{get_or_from_slice_get, same_Some, slice_get_within}
+use Rattle.std.proofs.Common.{◌≡◌, ◌<◌, ℕ, Bool, true, false, List, [], ◌∷◌, ◌++◌, length, Option, None, Some, Ok, IfOk, refl, sym, ap, subst}
+use Rattle.std.specs.Prelude.{IsTrue, if◌then◌else◌, is_none, slice_get}
+use Rattle.std.specs.List.{AllByRecursion}
+use Rattle.std.proofs.lemmas.List.Elements.{recursion_from_All}
+use Rattle.std.proofs.lemmas.Option.{get_or_from_slice_get, slice_get_within}
 use Rattle.base_core.specs.declared.ids.AttrNo.{AttrNo}
 use Rattle.base_core.specs.declared.ids.ClassId.{ClassId}
 use Rattle.base_core.specs.declared.ids.ObjId.{ObjId}
 use Rattle.base_core.specs.declared.ids.RelNo.{RelNo}
 use Rattle.base_core.specs.declared.refusal.Refusal.{Refusal}
 use Rattle.base_core.specs.declared.value.Value.{Value}
-use Rattle.schema_core.specs.Catalog.{same_name}
-use Rattle.class_types.specs.declared.declared.ClassSpec.{ClassSpec}
-use Rattle.class_types.specs.declared.mapped.Attribute.{Attribute}
-use Rattle.class_types.specs.declared.mapped.Relation.{Relation}
-use Rattle.class_layouts.specs.Hierarchy.{no_class, place_of}
-use Rattle.class_mapping.specs.Mapped.{IsAttribute, IsClass, Mapped, attributes_of, find_attribute, find_class, no_attribute, relations_of}
-use Rattle.object_arena.specs.Fit.{no_relation}
+use Rattle.class_mapping.specs.Mapped.{IsAttribute, IsClass, Mapped, relations_of}
+use Rattle.class_mapping.specs.Related.{AreRelated}
+use Rattle.mapping_laws.specs.Hierarchies.{HasHierarchies}
 use Rattle.object_arena.specs.Graph.{Graph, IsObject, object_at as object_of_graph}
 use Rattle.sql_semantics.specs.Checked.{Checked, ◌>>=◌}
 use Rattle.session_scopes.specs.SessionState.{IsMadeOf}
@@ -32,9 +27,18 @@ use Rattle.command_names.specs.declared.members.Member.{Member}
 use Rattle.command_names.specs.declared.members.Member.TheVariants.{Attribute as OfAttribute, One, Many}
 use Rattle.command_resolve.specs.declared.resolved.Resolved.{Resolved}
 use Rattle.command_resolve.specs.declared.resolved.Resolved.TheVariants as resolved
-use Rattle.command_names.specs.Attributes.{Cells, Giving, as_attribute, as_link, attribute_given, attribute_named, cells_behind, cells_fault, cells_of, class_named, find_relation, IsMember, IsRelation, is_given, link_named, link_or_unknown, member_named, member_or, unless_fault, value_fault}
-use Rattle.command_resolve.specs.Resolving.{Ends, ends_of, id_of_term, resolve, resolved_new, resolved_same, resolved_set, resolved_set_at, resolved_show, resolved_show_at, resolved_statement, set_by, show_by}
+use Rattle.command_names.specs.Attributes.{Cells, Giving, as_link, attribute_given, attribute_named, cells_behind, cells_fault, cells_of, class_named, IsMember, IsRelation, is_given, link_named, member_named, unless_fault, value_fault}
+use Rattle.command_resolve.specs.Resolving.{Ends, ends_of, id_of_term, resolve, resolved_get, resolved_key, resolved_new, resolved_objects, resolved_related, resolved_related_at, resolved_same, resolved_set, resolved_set_at, resolved_show, resolved_show_at, resolved_statement, set_by, show_by}
 use Rattle.command_names.specs.Standing.{AreThere, IsThere}
+use Rattle.command_resolve.specs.Standing.{HasRelation}
+use Rattle.expr_types.specs.declared.select.ObjectQuery.{ObjectQuery}
+use Rattle.load_queries.specs.Selectin.{IsOption}
+use Rattle.query_names.specs.Queries.{resolved_query}
+use Rattle.query_names.specs.Sources.{as_relation, relation_named}
+use Rattle.known_queries.specs.Known.{ReadsJoined}
+use Rattle.query_names.proofs.Meant.{attribute_is, class_is, found, given, member_is, same_Ok}
+use Rattle.query_names.proofs.Readable.{IsReadable as IsOfTables, resolved_known}
+use Rattle.script_types.specs.declared.select.SynQuery.{SynQuery}
 use Rattle.command_names.specs.Terms.{Bindings, Named, found_or_unknown, found_or_wrong, handle_if_named, object_at, object_of, shown_of, wrong_kind}
 use Rattle.base_core.specs.Answers.{Gives}
 use Rattle.expr_types.specs.declared.select.Bulk.{Bulk}
@@ -52,6 +56,10 @@ use Rattle.script_resolve.proofs.Whole.{bulk_fits, bulk_once}
 use Rattle.session_laws.specs.LinkCalls.{IsLinkCall}
 use Rattle.session_perform.proofs.Sendable.{plain_but_for_keys}
 
+-- the rows of a query are known by the tables, and its options are relationships of its class
+abbrev pub IsReadable : Mapped → ObjectQuery → Type 0
+IsReadable mapped query = ReadsJoined mapped query × AllByRecursion (IsOption mapped query.class) query.joined × AllByRecursion (IsOption mapped query.class) query.selectin
+
 -- what a line is asked of a session, so that it stays whole
 abbrev pub Asks : Mapped → Graph → Resolved → Type 0
 Asks mapped graph (resolved.New name class cells) = IsClass mapped class × AllByRecursion (λ (one : AttrNo × Value). IsAttribute mapped class one.0) cells
@@ -59,23 +67,16 @@ Asks mapped graph (resolved.SetCell object attr value) = (class : ClassId) × Is
 Asks mapped graph (resolved.ChangeLink owner relation call) = IsLinkCall mapped graph owner relation call
 Asks mapped graph (resolved.Add object) = IsObject graph object
 Asks mapped graph (resolved.Delete object) = IsObject graph object
+Asks mapped graph (resolved.Get name class key) = IsClass mapped class
+Asks mapped graph (resolved.Objects name query) = IsReadable mapped query
+Asks mapped graph (resolved.Related name object relation) = HasRelation mapped graph object relation
+Asks mapped graph (resolved.Refresh object) = IsObject graph object
 Asks mapped graph (resolved.ShowCell object attr) = IsObject graph object
+Asks mapped graph (resolved.ShowLink object relation) = HasRelation mapped graph object relation
 Asks mapped graph (resolved.Bulk statement) = IsPlainButForKeys mapped.schema statement
 Asks mapped graph other = Unit {0}
 
 -- ---- answers that were given
-
--- an answer of two steps is that of the second, behind the first's
-pub given : {A B : Type 0} (m : Checked A) (next : A → Checked B) (b : B) → (m >>= next) ≡ Ok b → (a : A) × (m ≡ Ok a) × (next a ≡ Ok b)
-given (Ok a) next b is = (a, refl, is)
-given (Err e) next b is = absurd cc
-
-same_Ok : {A : Type 0} (a b : A) → (let one : Checked A = Ok a in one ≡ Ok b) → a ≡ b
-same_Ok a b is = cc
-
-found : {A : Type 0} (name : List ℕ) (o : Option A) (a : A) → found_or_unknown name o ≡ Ok a → o ≡ Some a
-found name None a is = absurd cc
-found name (Some b) a is = ap (λ c. Some c) (same_Ok b a is)
 
 found_there : {A : Type 0} (o : Option A) (a : A) → found_or_wrong o ≡ Ok a → o ≡ Some a
 found_there None a is = absurd cc
@@ -85,52 +86,13 @@ passes : {A : Type 0} (fault : Option Refusal) (a b : A) → unless_fault fault 
 passes None a b is = same_Ok a b is
 passes (Some e) a b is = absurd cc
 
--- the number that was made of a place is inside
-placed : {X : Type 0} (make : ℕ → X) (number : X → ℕ) → ((i : ℕ) → number (make i) ≡ i) → (o : Option ℕ) (n : ℕ) → ((i : ℕ) → o ≡ Some i → i < n) → (x : X) → option_map make o ≡ Some x → number x < n
-placed make number same None n inside x is = absurd cc
-placed make number same (Some i) n inside x is = subst (λ (k : ℕ). k < n) (sym (same i) ∙ ap number (same_Some (make i) x is)) (inside i refl)
-
 -- ---- classes and their members
 
-class_is : (mapped : Mapped) (name : List ℕ) (class : ClassId) → class_named mapped name ≡ Ok class → IsClass mapped class
-class_is mapped name class is =
-    placed (λ (place : ℕ). let c : ClassId = record { 0 = place } in c) (λ (c : ClassId). c.0) (λ i. refl) (place_of mapped.classes.specs name) (length mapped.classes.specs)
-    (λ i at. (position-Some (λ (spec : ClassSpec). same_name spec.name name) mapped.classes.specs i no_class at).0) class (found name (find_class mapped name) class is)
-
 module _ (mapped : Mapped) (class : ClassId) where
-  link_is : (relation : RelNo) (many : Bool) (member : Member) → IsRelation mapped class relation many → (let one : Checked Member = Ok (if many then Many relation else One relation) in one ≡ Ok member) → IsMember mapped class member
-  link_is relation true member less is = subst (IsMember mapped class) (same_Ok (Many relation) member is) less
-  link_is relation false member less is = subst (IsMember mapped class) (same_Ok (One relation) member is) less
-
-  link_by : (name : List ℕ) (o : Option RelNo) (member : Member) → find_relation (relations_of mapped class) name ≡ o → link_or_unknown (relations_of mapped class) name o ≡ Ok member → IsMember mapped class member
-  link_by name None member at is = absurd cc
-  link_by name (Some relation) member at is =
-      link_is relation (slice_index_or (relations_of mapped class) relation.0 no_relation).many member (
-        placed (λ (place : ℕ). let r : RelNo = record { 0 = place } in r) (λ (r : RelNo). r.0) (λ i. refl) (position (λ (r : Relation). same_name r.name name) (relations_of mapped class)) (length (relations_of mapped class))
-            (λ i here. (position-Some (λ (r : Relation). same_name r.name name) (relations_of mapped class) i no_relation here).0) relation at,
-        refl,
-      ) is
-
-  member_by : (name : List ℕ) (o : Option AttrNo) (member : Member) → find_attribute (attributes_of mapped class) name ≡ o → member_or (relations_of mapped class) name o ≡ Ok member → IsMember mapped class member
-  member_by name None member at is = link_by name (find_relation (relations_of mapped class) name) member refl is
-  member_by name (Some attr) member at is =
-      subst (IsMember mapped class) (same_Ok (OfAttribute attr) member is)
-      (placed (λ (place : ℕ). let a : AttrNo = record { 0 = place } in a) (λ (a : AttrNo). a.0) (λ i. refl) (position (λ (a : Attribute). same_name a.name name) (attributes_of mapped class)) (length (attributes_of mapped class))
-      (λ i here. (position-Some (λ (a : Attribute). same_name a.name name) (attributes_of mapped class) i no_attribute here).0) attr at)
-
-  member_is : (name : List ℕ) (member : Member) → member_named mapped class name ≡ Ok member → IsMember mapped class member
-  member_is name member is = member_by name (find_attribute (attributes_of mapped class) name) member refl is
-
-  attribute_of : (member : Member) (attr : AttrNo) → IsMember mapped class member → as_attribute member ≡ Ok attr → IsAttribute mapped class attr
-  attribute_of (OfAttribute own) attr has is = subst (IsAttribute mapped class) (same_Ok own attr is) has
-  attribute_of (One relation) attr has is = absurd cc
-  attribute_of (Many relation) attr has is = absurd cc
-
   given_attribute : (before : List Giving) (name : List ℕ) (attr : AttrNo) → attribute_given mapped class before name ≡ Ok attr → IsAttribute mapped class attr
   given_attribute before name attr is =
       let one = given (attribute_named mapped class name) (λ attr. (if is_given before name then wrong_kind else Ok attr)) attr is in
-      let two = given (member_named mapped class name) as_attribute one.0 one.1 in
-      subst (IsAttribute mapped class) (first (is_given before name) one.0 one.2) (attribute_of two.0 one.0 (member_is name two.0 two.1) two.2)
+      subst (IsAttribute mapped class) (first (is_given before name) one.0 one.2) (attribute_is mapped class name one.0 one.1)
     where
       first : (again : Bool) (own : AttrNo) → (let r : Checked AttrNo = if again then wrong_kind else Ok own in r ≡ Ok attr) → own ≡ attr
       first true own is = absurd cc
@@ -153,11 +115,11 @@ module _ (mapped : Mapped) (class : ClassId) where
 
   link_named_is : (many : Bool) (name : List ℕ) (relation : RelNo) → link_named mapped many class name ≡ Ok relation → IsRelation mapped class relation many
   link_named_is many name relation is =
-      let one = given (member_named mapped class name) (as_link many) relation is in relation_of many one.0 relation (member_is name one.0 one.1) one.2
+      let one = given (member_named mapped class name) (as_link many) relation is in relation_of many one.0 relation (member_is mapped class name one.0 one.1) one.2
 
 -- ---- what names stand for
 
-module _ (mapped : Mapped) (graph : Graph) (drawn : ℕ) (names : Bindings) (there : AreThere graph drawn names) where
+module _ (mapped : Mapped) (has : HasHierarchies mapped) (relations : AreRelated mapped) (graph : Graph) (drawn : ℕ) (names : Bindings) (there : AreThere graph drawn names) where
   abbrev Made : Named → Type 0
   Made named = IsMadeOf graph named.0 named.1
 
@@ -219,10 +181,41 @@ module _ (mapped : Mapped) (graph : Graph) (drawn : ℕ) (names : Bindings) (the
       let two = given (member_named mapped one.0.1 member) (set_by mapped one.0 value) asked one.2 in
       set_line_by one.0 value two.0 asked (of_term term one.0 one.1) (member_is mapped one.0.1 member two.0 two.1) two.2
 
+  relation_there : (named : Named) (relation : RelNo) → Made named → relation.0 < length (relations_of mapped named.1) → HasRelation mapped graph named.0 relation
+  relation_there named relation made less = (made.0, subst (λ (class : ClassId). relation.0 < length (relations_of mapped class)) (sym made.1) less)
+
+  get_line : (name class : List ℕ) (key : List Value) (asked : Resolved) → resolved_get mapped name class key ≡ Ok asked → Fits asked
+  get_line name class key asked is =
+      let one = given (class_named mapped class) (λ class. (resolved_key mapped class key >>= λ key. Ok (resolved.Get name class key))) asked is in
+      let two = given (resolved_key mapped one.0 key) (λ key. Ok (resolved.Get name one.0 key)) asked one.2 in
+      subst Fits (same_Ok (resolved.Get name one.0 two.0) asked two.2) (class_is mapped class one.0 one.1)
+
+  related_by : (named : Named) (member : Member) (relation : RelNo) → Made named → IsMember mapped named.1 member → as_relation member ≡ Ok relation → HasRelation mapped graph named.0 relation
+  related_by named (OfAttribute attr) relation made has is = absurd cc
+  related_by named (One place) relation made has is = subst (HasRelation mapped graph named.0) (same_Ok place relation is) (relation_there named place made has.0)
+  related_by named (Many place) relation made has is = subst (HasRelation mapped graph named.0) (same_Ok place relation is) (relation_there named place made has.0)
+
+  related_line : (name : List ℕ) (term : Term) (member : List ℕ) (asked : Resolved) → resolved_related mapped names name term member ≡ Ok asked → Fits asked
+  related_line name term member asked is =
+      let one = given (object_of names term) (resolved_related_at mapped name member) asked is in
+      let two = given (relation_named mapped one.0.1 member) (λ relation. Ok (resolved.Related name one.0.0 relation)) asked one.2 in
+      let three = given (member_named mapped one.0.1 member) as_relation two.0 two.1 in
+      subst Fits (same_Ok (resolved.Related name one.0.0 two.0) asked two.2) (related_by one.0 three.0 two.0 (of_term term one.0 one.1) (member_is mapped one.0.1 member three.0 three.1) three.2)
+
+  of_tables : (query : ObjectQuery) → IsOfTables mapped query → IsReadable mapped query
+  of_tables query is =
+      (is.0, recursion_from_All (IsOption mapped query.class) query.joined is.0.places, recursion_from_All (IsOption mapped query.class) query.selectin is.1)
+
+  objects_line : (name : List ℕ) (written : SynQuery) (asked : Resolved) → resolved_objects mapped name written ≡ Ok asked → Fits asked
+  objects_line name written asked is =
+      let one = given (resolved_query mapped written) (λ query. Ok (resolved.Objects name query)) asked is in
+      subst Fits (same_Ok (resolved.Objects name one.0) asked one.2)
+      (of_tables one.0 (subst (λ (r : Checked ObjectQuery). IfOk r (IsOfTables mapped)) one.1 (resolved_known mapped has relations written)))
+
   show_line_by : (named : Named) (member : Member) → Made named → IsMember mapped named.1 member → Fits (show_by named.0 member)
   show_line_by named (OfAttribute attr) made has = made.0
-  show_line_by named (One relation) made has = tt
-  show_line_by named (Many relation) made has = tt
+  show_line_by named (One relation) made has = relation_there named relation made has.0
+  show_line_by named (Many relation) made has = relation_there named relation made has.0
 
   show_line : (term : Term) (member : List ℕ) (asked : Resolved) → resolved_show mapped names term member ≡ Ok asked → Fits asked
   show_line term member asked is =
@@ -274,6 +267,10 @@ module _ (mapped : Mapped) (graph : Graph) (drawn : ℕ) (names : Bindings) (the
   asks_what_is_there line.DropAll asked sayable is = plain resolved.DropAll asked tt is
   asks_what_is_there line.Dump asked sayable is = plain resolved.Dump asked tt is
   asks_what_is_there (line.New name class cells) asked sayable is = new_line name class cells asked is
+  asks_what_is_there (line.Get name class key) asked sayable is = get_line name class key asked is
+  asks_what_is_there (line.Objects name query) asked sayable is = objects_line name query asked is
+  asks_what_is_there (line.Related name term member) asked sayable is = related_line name term member asked is
+  asks_what_is_there (line.Refresh term) asked sayable is = one_object term resolved.Refresh asked (λ object made. made) is
   asks_what_is_there (line.BeginNested name) asked sayable is = plain (resolved.BeginNested name) asked tt is
   asks_what_is_there (line.SetValue term member value) asked sayable is = set_line term member value asked is
   asks_what_is_there (line.SetTerm term member other) asked sayable is = change_line false term member other (λ end. Set (Some end)) asked (λ end. refl) (λ end. refl) is

@@ -54,8 +54,10 @@ use Rattle.session_laws.proofs.Whole.Since.{IsKeyedSince, since_steps}
 use Rattle.script_laws.specs.Scripts.{HasOneAt, IsBuilt, IsLateBlock, IsLateDeclared, IsWholeAt, IsWholeShell, ScriptsEndWhole, ScriptsHaveOneForEachKey, ScriptsStayWhole, after_lines}
 use Rattle.script_laws.proofs.Built.{built_wider, class_built, configured_well, new_built, table_built}
 use Rattle.script_laws.proofs.Late.{IsLateRun, IsLateSaid, said_late}
-use Rattle.script_laws.proofs.Performed.{IsBound, IsLeft, line_left}
-use Rattle.script_laws.proofs.Resolved.{asks_what_is_there, given}
+use Rattle.script_laws.proofs.Performed.{IsBound, IsLeft, ReadingLaws, line_left}
+use Rattle.query_names.proofs.Meant.{given}
+use Rattle.session_laws.proofs.OwnRows.Standing.{hierarchies}
+use Rattle.script_laws.proofs.Resolved.{asks_what_is_there}
 
 abbrev Shells : Type 0
 Shells = Beside ShellState
@@ -161,7 +163,7 @@ declares count rules block (Configured session) names store next whole late is =
 
 -- ---- commands
 
-module _ (law : CallsKeepWhole) (rules : Rules) where
+module _ (law : CallsKeepWhole) (reads : ReadingLaws) (rules : Rules) where
   -- a command that was asked of a session
   asked_left : (names : Bindings) (v : Beside SessionState) (r : Result Resolved Refusal) → IsHale v → AreBound (Configured v.own) names → ((line : Resolved) → r ≡ Ok line → IsLeft names (program_of_resolved rules line v))
       → IsLeft names (continue_from [] v r (program_of_resolved rules))
@@ -174,7 +176,7 @@ module _ (law : CallsKeepWhole) (rules : Rules) where
       asked_left names v (asked dialect v.own.mapping names command) hale bound
       (λ line is.
       let texts = given (has_texts dialect v.own.mapping.schema command) (λ u. resolve v.own.mapping names command) line is in
-      line_left law rules names v hale bound line (asks_what_is_there v.own.mapping v.own.graph v.own.drawn.drawn names bound.0 command line sayable texts.2))
+      line_left law reads rules names v hale bound line (asks_what_is_there v.own.mapping (hierarchies v.own.mapping hale.keyed.well) hale.keyed.well.related v.own.graph v.own.drawn.drawn names bound.0 command line sayable texts.2))
 
   -- its answer is told, and bound
   told_whole : (count : ℕ) (names : Bindings) (session : SessionState) (store : Store) (a : Answer) → IsHale (record { own = session; store = store }) → AreBound (Configured session) names → IsBound session a → IsWholeAt count (Configured session) (names_with a names) store
@@ -355,15 +357,15 @@ few_lines (suc most) taken bytes = by (next_cut taken bytes) (λ took rest. few_
 script_few : (bytes : List ℕ) → length (lines_of bytes).lines ≤ 4294967295
 script_few bytes = let few : length (lines_of bytes).lines ≤ 16777217 = few_lines 16777217 0 bytes in omega (arith, few)
 
-pub end_law : CallsKeepWhole → ScriptsEndWhole
+pub end_law : CallsKeepWhole → ReadingLaws → ScriptsEndWhole
 unfolding script ◌>>=◌
-end_law law options rules bytes =
+end_law law reads options rules bytes =
     let lines : List (List ℕ) = (lines_of bytes).lines in
     let run : Run Shells (Unit {0}) = each (do_and_reply rules) tt lines (start options) in
-    ended_from law rules (length lines) (lines_of bytes).too_long run.events run.after run.answer (each_whole law rules 0 (length lines) lines tt (start options) (omega arith) (script_few bytes) ((new_built, refl, refl), tt))
+    ended_from law reads rules (length lines) (lines_of bytes).too_long run.events run.after run.answer (each_whole law reads rules 0 (length lines) lines tt (start options) (omega arith) (script_few bytes) ((new_built, refl, refl), tt))
 
-pub scripts_law : CallsKeepWhole → ScriptsStayWhole
-scripts_law law options rules lines few = each_whole law rules 0 (length lines) lines tt (start options) (omega arith) few ((new_built, refl, refl), tt)
+pub scripts_law : CallsKeepWhole → ReadingLaws → ScriptsStayWhole
+scripts_law law reads options rules lines few = each_whole law reads rules 0 (length lines) lines tt (start options) (omega arith) few ((new_built, refl, refl), tt)
 
 one_at : (count : ℕ) (stage : Stage) (names : Bindings) (store : Store) → IsWholeAt count stage names store → HasOneAt stage store
 one_at count (Declaring mapping) names store whole = tt

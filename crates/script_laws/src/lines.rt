@@ -12,6 +12,7 @@ use class_types::Hooks;
 use command_resolve::{Answer, Resolved};
 use keeper_core::Keeper;
 use session_laws::calls_keep_whole;
+use session_load_laws::{readings_keep_sessions_whole, readings_tell_made_objects};
 use session_perform::perform;
 use session_scopes::Session;
 
@@ -21,6 +22,8 @@ pub fn lines_keep_whole()
     ensures { LinesKeepWhole }
 {
     calls_keep_whole();
+    readings_keep_sessions_whole();
+    readings_tell_made_objects();
 }
 
 /// Does what a resolved line asks for, as `perform` does. Over a keeper that tells its tables a session that is healthy and whole stays

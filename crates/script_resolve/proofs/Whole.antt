@@ -262,6 +262,11 @@ module _ (schema : Catalog) where
 
 -- ---- what callers are told
 
+-- the first operand of another kind is one that names may be refused for
+pub kinds_cause : (schema : Catalog) (s : Select) (e : Refusal) → IsFirst e (mismatches schema s) → CanRefuse e
+unfolding mismatches
+kinds_cause schema s e first = first_cause (λ (s : Select). s) (Err e) (mismatches schema s) s (gives_told (Err e) (mismatches schema s) s tt first) (kinds_under_causes schema (scope_of s) s)
+
 pub resolved_cause : (schema : Catalog) (w : SynSelect) (r : Result Select Refusal) → Gives (λ x. x) r (resolved_select schema w) → IfErr r CanRefuse
 unfolding resolved_select
 resolved_cause schema w r g = first_cause (λ x. x) r (select_faults schema w) (normal_select (named_select schema w)) g (select_causes schema w)
@@ -300,5 +305,7 @@ unfolding resolved_bulk
 refused_bulk schema w e first = gives_told (Err e) (bulk_faults schema w) (normal_bulk (named_bulk schema w)) tt first
 
 pub ruleset whole = (given_select, refused_select, given_bulk, refused_bulk)
+
+pub ruleset kind_faults = (kinds_cause)
 
 pub ruleset told = (resolved_cause, resolved_plain, bulk_cause, bulk_fits, bulk_once)

@@ -1,10 +1,11 @@
 //! Statements whose names are known, judged and put into normal form.
 
-ghost use Rattle.std.specs.Prelude.{◌≡◌, IfOk};
+ghost use Rattle.std.specs.Prelude.{◌≡◌, IfErr, IfOk};
 ghost use Rattle.expr_types.specs.NormalSelect as selects;
 ghost use Rattle.script_names.specs.Faults.{TellsFirst};
 ghost use Rattle.script_resolve.specs.JudgedBulks as bulks;
 ghost use Rattle.script_resolve.specs.Judging as spec;
+ghost use Rattle.script_resolve.specs.Refusals.{CanRefuse};
 ghost use Rattle.statement_kinds.specs.NormalBulk.{normal_bulk};
 
 use crate::apart::{bulk_names_apart, has_names_apart};
@@ -19,7 +20,8 @@ use std::alloc::Global;
 /// Whether the parts of a select in normal form stand where they may.
 #[tactic(auto, unfolding(crate::specs::Judging::place_faults), using(statement_kinds::proofs::Firsts::firsts))]
 fn judge_places(alloc: Global, schema: &Schema, s: &Select) -> Result<(), Refusal>
-    ensures { TellsFirst (spec.place_faults schema.now s.now) result }
+    ensures told { TellsFirst (spec.place_faults schema.now s.now) result }
+    ensures cause { IfErr result CanRefuse }
 {
     if !has_parts_in_place(s) {
         return Err(Refusal::InvalidRequestError(RequestKind::NotGrouped));
@@ -36,15 +38,12 @@ fn judge_places(alloc: Global, schema: &Schema, s: &Select) -> Result<(), Refusa
 /// The first that there is, in this order: in reading order, items first, `TypeMismatch` of an operand that is of another kind
 /// than its place wants, judged as it is written; `NotGrouped` for an aggregate in `where`, `on`, `group by` or another
 /// aggregate, and for a column of a grouped query outside aggregates and group expressions; `DuplicateFrom` for two sources of
-/// one name, also around and in an `exists`.
-#[tactic(auto, using(statement_kinds::proofs::Firsts::firsts))]
-pub(crate) fn judge_select(
-    alloc: Global,
-    schema: &Schema,
-    s: &Select,
-) -> Result<Boxed<Select>, Refusal>
+/// one name, also around and in an `exists`. `Memory`.
+#[tactic(auto, using(statement_kinds::proofs::Firsts::firsts, crate::proofs::Whole::kind_faults))]
+pub fn judge_select(alloc: Global, schema: &Schema, s: &Select) -> Result<Boxed<Select>, Refusal>
     ensures value { IfOk result (λ form. form ≡ selects.normal_select s.now) }
     ensures told { TellsFirst (spec.judged_select schema.now s.now) result }
+    ensures cause { IfErr result CanRefuse }
 {
     judge_kinds(alloc, schema, s)?;
     let form = normal_select(alloc, s)?;

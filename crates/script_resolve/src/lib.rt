@@ -12,4 +12,5 @@ mod judging;
 mod select;
 
 pub use bulk::resolve_bulk;
+pub use judging::judge_select;
 pub use select::resolve_select;

@@ -12,12 +12,12 @@ use Rattle.keeper_core.specs.Store.{Store}
 use Rattle.keeper_core.specs.Programs.{Run, ends_early, quiet}
 use Rattle.keeper_core.specs.Moment.{IsCalm, Moment, counters, parts}
 use Rattle.keeper_core.specs.Beside.{moment_beside}
-use Rattle.session_scopes.specs.Changes.{cell_read, changed_unless, deletion_marked, value_put}
+use Rattle.session_scopes.specs.Changes.{changed_unless, deletion_marked, value_put}
 use Rattle.session_scopes.specs.Scoping.{session_begun}
 use Rattle.session_scopes.specs.SessionState.{AreAlikeButNotes, SessionState, in_transaction}
 use Rattle.session_calls.specs.Calling.{IsSessionCall}
 use Rattle.session_calls.specs.Parts.{World, fault_if}
-use Rattle.session_calls.specs.Refusals.{Before, Early, Inside, IsRefused, entered, fault_in, kept_fault, mark_fault, read_fault}
+use Rattle.session_calls.specs.Refusals.{Before, Early, Inside, IsRefused, entered, fault_in, kept_fault, mark_fault}
 use Rattle.session_calls.specs.Steps.{pending_fault}
 
 -- what holds of a refusal holds of it as the answer of the call around
@@ -87,14 +87,6 @@ unfolding value_put
 set_refused object attr value own mid now r alike well step =
     quietly_refused (λ (u : Unit {0}). u) (value_put object attr value mid) (kept_fault object attr) own mid now r alike well
     (λ e is. changed_not (kept_fault object attr mid) (with_value mid.graph object attr value) mid now e is) step
-
--- a cell is not told
-pub read_refused : (object : ObjId) (attr : AttrNo) (own mid : SessionState) (r : Result Value Refusal) → AreAlikeButNotes (entered own) mid → mid.failed ≡ false → IsQuiet (λ (value : Value). value) (cell_read object attr mid) r mid
-    → IfErr r (λ e. IsRefused (pending_fault own) (read_fault object attr own) own e mid)
-unfolding cell_read
-read_refused object attr own mid r alike well step =
-    quietly_refused (λ (value : Value). value) (cell_read object attr mid) (read_fault object attr) own mid mid r alike well
-    (λ e is. (ap (λ (run : Run SessionState Value). fault_in run.answer) is, refl)) step
 
 -- an object is not marked
 pub mark_refused : (object : ObjId) (own mid now : SessionState) (r : Result (Unit {0}) Refusal) → AreAlikeButNotes (entered own) mid → mid.failed ≡ false → IsQuiet (λ (u : Unit {0}). u) (deletion_marked object mid) r now

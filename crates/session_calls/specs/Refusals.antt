@@ -4,9 +4,9 @@ use Rattle.base_core.specs.declared.ids.AttrNo.{AttrNo}
 use Rattle.base_core.specs.declared.ids.ObjId.{ObjId}
 use Rattle.base_core.specs.declared.refusal.Refusal.{Refusal}
 use Rattle.base_core.specs.declared.value.Value.{Value}
-use Rattle.object_arena.specs.Graph.{cell_at, either_fault, key_fault, object_at, value_fault}
+use Rattle.object_arena.specs.Graph.{either_fault, key_fault, object_at, value_fault}
 use Rattle.keeper_core.specs.Programs.{ends_early}
-use Rattle.session_scopes.specs.Changes.{delete_fault, read_of}
+use Rattle.session_scopes.specs.Changes.{delete_fault}
 use Rattle.session_scopes.specs.Scoping.{session_begun}
 use Rattle.session_scopes.specs.SessionState.{AreAlikeButNotes, SessionState, in_transaction}
 use Rattle.session_calls.specs.Steps.{pending_fault}
@@ -37,10 +37,6 @@ kept_fault object attr session = key_fault session.mapping (object_at session.gr
 abbrev pub fault_in : {A : Type 0} → Result A Refusal → Option Refusal
 fault_in (Ok value) = None
 fault_in (Err fault) = Some fault
-
--- the cell holds no value that can be told
-abbrev pub read_fault : ObjId → AttrNo → SessionState → Option Refusal
-read_fault object attr session = fault_in (read_of (cell_at session.graph object attr).value (object_at session.graph object).state object)
 
 -- the object is not to be deleted
 abbrev pub mark_fault : ObjId → SessionState → Option Refusal

@@ -9,7 +9,7 @@ use Rattle.keeper_core.specs.Programs.{Run, ◌>>=◌, give, refuse}
 use Rattle.keeper_core.specs.Beside.{by_own, changes, on_own, on_store}
 use Rattle.keeper_core.specs.Calls as call
 use Rattle.object_arena.specs.Graph.{object_at, value_fault}
-use Rattle.session_scopes.specs.Changes.{cell_read, deletion_marked, value_put}
+use Rattle.session_scopes.specs.Changes.{deletion_marked, value_put}
 use Rattle.session_scopes.specs.Handles.{place_of_handle}
 use Rattle.session_scopes.specs.Scoping.{session_begun, session_closed, session_rolled_back}
 use Rattle.session_scopes.specs.SessionState.{SessionState, in_transaction, with_notes}
@@ -39,10 +39,6 @@ set_fitting object attr value = enter >>= λ u. on_own (value_put object attr va
 -- a value goes into a cell: its kind is judged before anything is sent, and whether the cell stays as it is in the transaction
 unfoldable pub set_cell : ObjId → AttrNo → Value → World → Run World (Unit {0})
 set_cell object attr value = checked (λ session. value_fault session.mapping (object_at session.graph object) attr value) >>= λ u. set_fitting object attr value
-
--- the value of a cell
-unfoldable pub read_cell : ObjId → AttrNo → World → Run World Value
-read_cell object attr = enter >>= λ u. on_own (cell_read object attr)
 
 -- the next flush deletes the object
 unfoldable pub delete : ObjId → World → Run World (Unit {0})

@@ -5,6 +5,6 @@ mod objects;
 mod scopes;
 mod store;
 
-pub use objects::{delete, read_cell, set_cell};
+pub use objects::{delete, set_cell, value_fault};
 pub use scopes::{close, enter, rollback, rollback_handle};
 pub use store::roll_back;

@@ -6,7 +6,7 @@ ghost use Rattle.object_arena.specs.Graph.{IsObject, object_at, value_fault};
 ghost use Rattle.keeper_core.specs.Alone.{IsOwn};
 ghost use Rattle.session_scopes.specs.SessionState.{IsInStep};
 ghost use Rattle.session_calls.specs.Calling.{IsSessionCall};
-ghost use Rattle.session_calls.specs.Refusals.{IsRefused, kept_fault, mark_fault, read_fault, set_fault};
+ghost use Rattle.session_calls.specs.Refusals.{IsRefused, kept_fault, mark_fault, set_fault};
 ghost use Rattle.session_calls.specs.Steps as steps;
 
 use crate::scopes::enter;
@@ -69,7 +69,7 @@ fn set_fitting<K: Keeper>(
 }
 
 /// Why a value is not taken for an attribute of an object: it is not NULL, and of another kind.
-fn value_fault(session: &Session, object: ObjId, attr: AttrNo, value: &Value) -> Option<Refusal>
+pub fn value_fault(session: &Session, object: ObjId, attr: AttrNo, value: &Value) -> Option<Refusal>
     requires object { IsObject session.now.graph object }
     requires attr { IsAttribute session.now.mapping
         (object_at session.now.graph object).class attr }
@@ -84,30 +84,6 @@ fn value_fault(session: &Session, object: ObjId, attr: AttrNo, value: &Value) ->
         return None;
     }
     Some(Refusal::TypeMismatch(wanted, found))
-}
-
-/// The value of a cell.
-///
-/// # Errors
-/// `PendingRollbackError` while a failed flush waits for its rollback; then, in the transaction, `NotBuilt` for an expired cell of
-/// a persistent object, and `DetachedInstanceError` for one of any other object.
-pub fn read_cell<K: Keeper>(
-    session: &mut Session,
-    keeper: &mut K,
-    object: ObjId,
-    attr: AttrNo,
-) -> Result<Value, Refusal>
-    requires in_step { IsInStep session.old (K.moment keeper.old) }
-    requires object { IsObject session.old.graph object }
-    requires attr { IsAttribute session.old.mapping
-        (object_at session.old.graph object).class attr }
-    ensures call { IsSessionCall K.moment (λ value. value) (steps.read_cell object attr)
-        (session.old, keeper.old) result (session.new, keeper.new) }
-    ensures refused { IfErr result (λ e. IsRefused (steps.pending_fault session.old)
-        (read_fault object attr session.old) session.old e session.new) }
-{
-    enter(session, keeper)?;
-    session.read(object, attr)
 }
 
 /// The next flush deletes a persistent object. It is touched in the innermost scope where its record comes to differ.

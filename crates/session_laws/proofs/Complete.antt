@@ -1,4 +1,5 @@
 pub mod Answering
+pub mod Built
 pub mod Leaving
 pub mod Opened
 pub mod Reading

@@ -1,6 +1,7 @@
 pub mod Accepting
 pub mod Again
 pub mod Answered
+pub mod Events
 pub mod Flushing
 pub mod Kept
 pub mod LawProofs

@@ -1,8 +1,9 @@
 -- When a flush answers, and the calls that flush.
-use Rattle.std.specs.Prelude.{◌≡◌, ◌<◌, ℕ, true, false, List, length, slice_get, slice_index_or, None, Some, Ok}
+use Rattle.std.specs.Prelude.{◌≡◌, ◌<◌, ℕ, true, false, List, length, slice_get, slice_index_or, None, Some, Ok, Err}
 use Rattle.std.specs.List.{list_any}
 use Rattle.base_core.specs.declared.ids.ClassId.{ClassId}
 use Rattle.base_core.specs.declared.ids.TableId.{TableId}
+use Rattle.base_core.specs.declared.refusal.Refusal.TheVariants.{NotBuilt}
 use Rattle.base_core.specs.declared.value.Value.{Value}
 use Rattle.base_core.specs.declared.value.Value.TheVariants.{Null}
 use Rattle.schema_core.specs.declared.table.ColumnSpec.{ColumnSpec}
@@ -86,6 +87,10 @@ abbrev pub ObjectsState : Mapped → Graph → Tables → Tables → Type 0
 ObjectsState mapped graph old after =
     (order : List ℕ) × (insert_order mapped.schema (project mapped graph (prepared_of graph)) ≡ Ok order)
     × (stated_tables mapped.schema old (changes_to_write (project mapped graph (prepared_of graph))) order ≡ Some after)
+
+-- in every healthy session a flush is refused as not built only where an orphan waits: each statement of its plan fits the schema
+abbrev pub FlushesAreBuilt : Type 0
+FlushesAreBuilt = (world : World) → IsHealthy world → IsWhole world → orphan_fault world.own ≡ None → (flush_now world).answer ≡ Err NotBuilt → ⊥
 
 -- in every healthy session a flush that answers leaves what the objects state
 abbrev pub FlushesLeaveStatedRows : Type 0

@@ -1,13 +1,17 @@
--- What a flush leaves in the tables, where the store is told.
-use Rattle.std.specs.Prelude.{◌≡◌, true, List, [], ◌∷◌, Option, IfSome, Ok}
+-- What a flush sends, and what it leaves in the tables, where the store is told.
+use Rattle.std.specs.Prelude.{◌≡◌, true, List, [], ◌∷◌, Option, IfSome, Ok, Err}
+use Rattle.std.specs.List.{flat_map}
 use Rattle.base_core.specs.declared.ids.ObjId.{ObjId}
 use Rattle.schema_core.specs.declared.changes.Planned.{Planned}
 use Rattle.schema_core.specs.declared.changes.RowChanges.{RowChanges}
 use Rattle.schema_core.specs.Catalog.{Catalog}
 use Rattle.object_arena.specs.Graph.{Graph, is_persistent, object_at}
-use Rattle.flush_plan.specs.Flushing.{Sofar, send, send_all}
+use Rattle.flush_plan.specs.Flushing.{Flushed, Sofar, send, send_all, statement_sent}
 use Rattle.flush_plan.specs.Planning.{plan}
+use Rattle.keeper_core.specs.declared.sent.Sent.{Sent}
+use Rattle.keeper_core.specs.declared.sent.Sent.TheVariants.{Write}
 use Rattle.keeper_core.specs.Store.{Store}
+use Rattle.keeper_core.specs.Programs.{Event, Log, Sends, Writes, after_events}
 use Rattle.keeper_core.specs.Moment.{Told}
 use Rattle.table_laws.specs.Legality.{IsLegalStore}
 use Rattle.session_scopes.specs.SessionState.{SessionState}
@@ -22,11 +26,12 @@ use Rattle.session_acts.specs.Outcome.{changes_of}
 abbrev pub world_of : SessionState → Told Store → World
 world_of own told = record { own = own; store = told.world }
 
--- the flush of a world answers, and what is told then, with the session, is what it leaves
-pub record IsRunOf (world : World) (now : SessionState) (told : Option (Told Store)) : Type 0 where
+-- the flush of a world answers, what is told then, with the session, is what it leaves, and the outside has seen its events
+pub record IsRunOf (world : World) (before : Log) (now : SessionState) (told : Option (Told Store)) : Type 0 where
   pub answer : (flush world).answer ≡ Ok tt
   pub own : now ≡ (flush world).after.own
   pub store : IfSome told (λ t. t.world ≡ (flush world).after.store)
+  pub log : IfSome told (λ t. t.log ≡ after_events before (flush world).events)
 
 -- ---- what is sent
 
@@ -36,6 +41,24 @@ SendsItsPlan =
     (world : World) → (flush world).answer ≡ Ok tt
     → (statements : List Planned) × (sofar : Sofar) × (plan world.own.mapping.schema (changes_of world.own) ≡ Ok statements)
     × (send_all world.own.mapping.schema (changes_of world.own) (Ok (record { tables = world.store.tables; keys = [] })) statements ≡ Ok sofar) × ((flush world).after.store.tables ≡ sofar.tables)
+
+-- the statement that an event sends, if it is such an event
+abbrev pub sent_by : Event → List Sent
+sent_by (Sends statement committed) = statement ∷ []
+sent_by (Writes byte) = []
+
+-- the statements of a plan as they are sent, each with the keys that are known by then, up to the first that is refused
+abbrev pub statements_sent : Catalog → RowChanges → Flushed → List Planned → List Sent
+statements_sent schema rows sofar [] = []
+statements_sent schema rows (Err stop) (planned ∷ plan) = []
+statements_sent schema rows (Ok sofar) (planned ∷ plan) = Write (statement_sent schema rows sofar.keys planned) ∷ statements_sent schema rows (send schema rows sofar planned) plan
+
+-- what a flush that answers sends is the statements of its plan in order, each with the keys that are known by then, and no more
+abbrev pub SendsPlannedStatements : Type 0
+SendsPlannedStatements =
+    (world : World) → (flush world).answer ≡ Ok tt
+    → (statements : List Planned) × (plan world.own.mapping.schema (changes_of world.own) ≡ Ok statements)
+    × (flat_map sent_by (flush world).events ≡ statements_sent world.own.mapping.schema (changes_of world.own) (Ok (record { tables = world.store.tables; keys = [] })) statements)
 
 -- each statement is of new rows and fits the schema when it is sent
 abbrev pub AreSendable : Catalog → RowChanges → Sofar → List Planned → Type 0

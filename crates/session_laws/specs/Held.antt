@@ -17,6 +17,7 @@ use Rattle.flush_plan.specs.Planning.{plan}
 use Rattle.flush_plan.specs.Stating.{row_at}
 use Rattle.object_rows.specs.declared.prepared.Prepared.{Prepared}
 use Rattle.object_rows.specs.Rows.{key_or_none}
+use Rattle.object_rows.specs.Seen.{is_new}
 use Rattle.session_laws.specs.Plans.Laws.{before}
 use Rattle.session_laws.specs.Plans.Premises.{IsSorted}
 use Rattle.session_laws.specs.Graphs.{HaveOwnRows, IsWellMapped}
@@ -69,3 +70,11 @@ FlushedObjectsHold =
     → given ≡ map (key_of_new sofar.keys) (range_with_len 0 (length (project mapped graph prepared).fresh)) → (place : ℕ) → place < length graph.objects
     → is_persistent (placed_object (graph_flushed mapped prepared (project mapped graph prepared) given graph) place).state ≡ true
     → HoldsItsRows mapped sofar.tables (placed_object (graph_flushed mapped prepared (project mapped graph prepared) given graph) place)
+
+-- and each new object has a key, that of its row: none is transient for want of one
+abbrev pub NewObjectsHaveKeys : Type 0
+NewObjectsHaveKeys =
+    (mapped : Mapped) (graph : Graph) (prepared : Prepared) (old : Tables) (statements : List Planned) (sofar : Sofar) (given : List (List Value)) → AreHeld mapped graph prepared old
+    → plan mapped.schema (project mapped graph prepared) ≡ Ok statements → send_all mapped.schema (project mapped graph prepared) (Ok (before old)) statements ≡ Ok sofar → Legal mapped.schema sofar.tables
+    → given ≡ map (key_of_new sofar.keys) (range_with_len 0 (length (project mapped graph prepared).fresh)) → (place : ℕ) → place < length graph.objects
+    → is_new graph prepared (id_of_place place) ≡ true → is_some (placed_object (graph_flushed mapped prepared (project mapped graph prepared) given graph) place).identity ≡ true

@@ -1,5 +1,6 @@
 -- When a session that is told is sound: what its objects hold is what the store has.
 use Rattle.std.specs.Prelude.{◌≡◌, ◌≢◌, ℕ, ◌-◌, ◌<◌, ◌≤◌, true, false, List, [], ◌∷◌, length, slice_get, slice_index_or, Option, None, Some}
+use Rattle.std.specs.List.{AllByRecursion}
 use Rattle.std.specs.Option.{option_and_then}
 use Rattle.base_core.specs.declared.value.Value.{Value}
 use Rattle.class_types.specs.declared.mapped.Attribute.{Attribute}
@@ -7,6 +8,8 @@ use Rattle.class_mapping.specs.Mapped.{Mapped, attribute_of}
 use Rattle.expr_types.specs.declared.select.Bulk.{Bulk}
 use Rattle.sql_semantics.specs.Plain.{IsPlainBulk}
 use Rattle.schema_core.specs.Tables.{Legal, Tables, row_under, rows_in}
+use Rattle.object_arena.specs.declared.object.Link.{Link}
+use Rattle.object_arena.specs.declared.object.Link.TheVariants.{Unloaded}
 use Rattle.object_arena.specs.declared.object.Object.{Object}
 use Rattle.object_arena.specs.declared.object.State.TheVariants.{Pending}
 use Rattle.object_arena.specs.Graph.{Graph, IsObject, cell_in, expired_cell, is_persistent, no_class_id, no_object}
@@ -92,11 +95,16 @@ pub record IsSettled (object : Object) : Type 0 where
   pub settled : object.state ≢ Pending
   pub unmarked : object.marked ≡ false
 
--- outside transactions nothing is pending or marked, and every persistent object is wholly expired
+-- of no link it is known to what it leads, and nothing is kept to be added or removed
+abbrev pub AreUnloaded : List Link → Type 0
+AreUnloaded links = AllByRecursion (λ link. link ≡ Unloaded [] []) links
+
+-- outside transactions nothing is pending or marked, and every persistent object is wholly expired, its cells and its links
 pub record IsAtRest (object : Object) : Type 0 where
   pub settled : object.state ≢ Pending
   pub unmarked : object.marked ≡ false
   pub expired : is_persistent object.state ≡ true → (attr : AttrNo) → attr.0 < length object.cells → cell_in object attr ≡ expired_cell
+  pub unloaded : is_persistent object.state ≡ true → AreUnloaded object.links
 
 -- outside transactions objects are at rest
 abbrev pub RestIf : List Scope → Graph → Type 0

@@ -37,7 +37,6 @@ abbrev pub IsCallOf : Call → World → Type 0
 IsCallOf (Call.Make class given) world = IsClass world.own.mapping class × AllByRecursion (λ (one : AttrNo × Value). IsAttribute world.own.mapping class one.0) given
 IsCallOf (Call.Add object) world = IsObject world.own.graph object
 IsCallOf (Call.Set object attr value) world = IsObject world.own.graph object × IsAttribute world.own.mapping (object_at world.own.graph object).class attr
-IsCallOf (Call.Read object attr) world = IsObject world.own.graph object
 IsCallOf (Call.Delete object) world = IsObject world.own.graph object
 IsCallOf (Call.ChangeLink owner place call) world = IsLinkCall world.own.mapping world.own.graph owner place call
 IsCallOf (Call.Write statement) world = IsPlainButForKeys world.own.mapping.schema statement

@@ -1,7 +1,7 @@
 //! When a flush answers, completeness, and which rows one that answers leaves. Each law is the contract of a function that calls the
 //! laws that it rests on, so there is no body that could be wrong.
 
-ghost use Rattle.session_laws.specs.Complete.{BeginAnswersWhere, CommitAnswersWhere, CommitsLeaveStatedRows, FlushAnswersWhere, FlushesLeaveStatedRows, LinkedFlushesLeaveStatedRows, LinksMayBeWritten, MayBeWritten, SavepointsLeaveStatedRows};
+ghost use Rattle.session_laws.specs.Complete.{BeginAnswersWhere, CommitAnswersWhere, CommitsLeaveStatedRows, FlushAnswersWhere, FlushesAreBuilt, FlushesLeaveStatedRows, LinkedFlushesLeaveStatedRows, LinksMayBeWritten, MayBeWritten, SavepointsLeaveStatedRows};
 
 use crate::own_row_laws::objects_have_own_rows;
 use crate::sendable_laws::{changes_fit, fit_plans_are_sendable};
@@ -32,6 +32,15 @@ pub fn stated_links_are_written()
     ensures begin { BeginAnswersWhere LinksMayBeWritten }
 {
     a_flush_of_stated_tables_answers();
+    fit_plans_are_sendable();
+    changes_fit();
+}
+
+/// In every healthy session a flush is refused as not built only where an orphan waits: each statement of its plan fits the schema
+/// when it is sent.
+pub fn flushes_are_built()
+    ensures { FlushesAreBuilt }
+{
     fit_plans_are_sendable();
     changes_fit();
 }

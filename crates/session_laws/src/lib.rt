@@ -29,7 +29,8 @@ mod whole_laws;
 mod worked;
 
 pub use complete_laws::{
-    flushes_leave_the_stated_rows, stated_links_are_written, stated_objects_are_written,
+    flushes_are_built, flushes_leave_the_stated_rows, stated_links_are_written,
+    stated_objects_are_written,
 };
 pub use configured_laws::{is_well_mapped, plain_classes};
 pub use graph_laws::{
@@ -40,7 +41,7 @@ pub use healthy_laws::{
     a_new_session_is_healthy, calls_keep_health, flushing_calls_keep_health,
     one_object_stands_for_each_key, what_is_told_stays_healthy,
 };
-pub use held_laws::flushed_objects_hold;
+pub use held_laws::{flushed_objects_hold, new_objects_have_keys};
 pub use legal_prefixes::{
     accepted_plans_are_stated, inserts_are_legal, plans_are_legal, premises_are_met,
 };
@@ -77,8 +78,8 @@ pub use sound_sessions::{
 pub use stated_flush_laws::{a_flush_leaves_the_stated_rows, a_flush_of_stated_tables_answers};
 pub use table_call_laws::{dropping_tables_keeps_sound, making_tables_keeps_sound};
 pub use told_flush_laws::{
-    a_flush_leaves_legal_tables, a_flush_sends_its_plan, a_second_flush_sends_nothing,
-    a_told_flush_is_its_run, an_accepted_flush_answers,
+    a_flush_leaves_legal_tables, a_flush_sends_its_plan, a_flush_sends_planned_statements,
+    a_second_flush_sends_nothing, a_told_flush_is_its_run, an_accepted_flush_answers,
 };
 pub use whole_laws::{
     a_new_session_is_whole, calls_keep_objects_fitting, calls_keep_tables_legal, calls_keep_whole,

@@ -24,12 +24,10 @@ pub fn entering_keeps_sound()
     ensures { KeepsSound steps.enter }
 {}
 
-/// What is done to one object keeps a session sound, whether it is refused or not: a value in a cell, a read of a cell, and a delete
-/// mark.
+/// What is done to one object keeps a session sound, whether it is refused or not: a value in a cell, and a delete mark.
 pub fn calls_on_objects_keep_sound()
     ensures set { (attr : AttrNo) (value : Value)
         → KeepsSoundOf (λ object. steps.set_cell object attr value) }
-    ensures read { (attr : AttrNo) → KeepsSoundOf (λ object. steps.read_cell object attr) }
     ensures delete { KeepsSoundOf steps.delete }
 {}
 

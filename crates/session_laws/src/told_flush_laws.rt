@@ -14,17 +14,22 @@ ghost use Rattle.session_scopes.specs.SessionState.{SessionState};
 use keeper_core::Keeper;
 
 /// A flush that answered, over a keeper that tells, is the flush of what the keeper told before it: what it tells then, and the
-/// session, are what that leaves. So the laws here hold of it.
+/// session, are what that leaves, and the outside has seen what that sends. So the laws here hold of it.
 pub fn a_told_flush_is_its_run<K: Keeper>()
     ensures { (own now : SessionState) (old new : K) (told : Told Store)
         → (K.moment old).told ≡ Some told
         → IsSessionCall K.moment (λ u. u) flush (own, old) (Ok tt) (now, new)
-        → law.IsRunOf (law.world_of own told) now (K.moment new).told }
+        → law.IsRunOf (law.world_of own told) told.log now (K.moment new).told }
 {}
 
 /// A flush that answers has sent its plan whole, and each statement was accepted by the tables that those before it left.
 pub fn a_flush_sends_its_plan()
     ensures { law.SendsItsPlan }
+{}
+
+/// What a flush that answers sends is the statements of its plan, in order, each with the keys that are known by then, and no more.
+pub fn a_flush_sends_planned_statements()
+    ensures { law.SendsPlannedStatements }
 {}
 
 /// A flush for which there is a plan, each statement of which fits the schema and is accepted by the tables so far, answers, and leaves

@@ -13,10 +13,9 @@ use Rattle.class_mapping.specs.Mapped.{Mapped, partner_of, relations_of}
 use Rattle.object_arena.specs.Fit.{relation_of}
 use Rattle.object_arena.specs.Graph.{Graph, IsObject, either_fault, object_at}
 use Rattle.object_arena.specs.Identity.{IsGraph}
-use Rattle.keeper_core.specs.Alone.{IsOwn, IsQuiet}
+use Rattle.keeper_core.specs.Alone.{IsOwn}
 use Rattle.keeper_core.specs.Store.{Store}
 use Rattle.keeper_core.specs.Moment.{Moment}
-use Rattle.keeper_core.specs.Beside.{on_own}
 use Rattle.relations.specs.declared.calls.LinkCall.{LinkCall}
 use Rattle.relations.specs.declared.calls.LinkCall.TheVariants.{Set, Append, Remove}
 use Rattle.relations.specs.declared.change.Change.{Change}
@@ -27,14 +26,12 @@ use Rattle.relations.specs.Parents.{old_parent}
 use Rattle.session_scopes.specs.SessionState.{GoesOn, SessionState}
 use Rattle.session_calls.specs.Calling.{IsSessionCall}
 use Rattle.session_calls.specs.Steps.{enter}
-use Rattle.session_calls.proofs.Joining.{err_call, own_call, same_itself, then_call}
+use Rattle.session_calls.proofs.Joining.{err_call, then_call}
 use Rattle.session_objects.proofs.OutsiderLemmas.{StayInside, outsiders_conflict, outsiders_join}
 use Rattle.session_objects.specs.Steps.{IsDoneInside}
 use Rattle.session_objects.specs.Taking.{outsiders, session_joined}
-use Rattle.session_links.specs.declared.reading.Related.{Related}
 use Rattle.session_links.specs.Linking.{change_fault, coming_fault, coming_if, fault_by, session_by, session_changed, session_linked, unread_fault}
-use Rattle.session_links.specs.Reading.{link_read}
-use Rattle.session_links.specs.Steps.{change_inside, change_link, read_related}
+use Rattle.session_links.specs.Steps.{change_inside, change_link}
 
 -- ---- in the transaction
 
@@ -171,15 +168,3 @@ changed_as owner place call change objects child own now told stay is whose put 
     ∙ outsiders_join own.graph coming (session_linked child change own) stay
     ∙ ap (λ (c : ObjId). session_joined coming (session_linked c change own)) whose
     ∙ sym (ap (session_by owner place call own) told)
-
--- ---- what is read
-
-pub reads : {K : Type 0} (moment : K → Moment Store) (object : ObjId) (place : RelNo) {own mid : SessionState} {old between : K} {r : Result Related Refusal} → IsSessionCall moment (λ (u : Unit {0}). u) enter (own, old) (Ok tt) (mid, between)
-    → IsQuiet (λ related. related) (link_read object place mid) r mid → IsSessionCall moment (λ related. related) (read_related object place) (own, old) r (mid, between)
-unfolding read_related
-reads moment object place {mid = mid} p read = then_call (λ u. on_own (link_read object place)) p (own_call moment (link_read object place) read (same_itself mid) refl p.kept.in_step)
-
-pub reads_not : {Y K : Type 0} (moment : K → Moment Store) (object : ObjId) (place : RelNo) {v : Y → Related} {own now : SessionState} {old new : K} {e : Refusal} → IsSessionCall moment (λ (u : Unit {0}). u) enter (own, old) (Err e) (now, new)
-    → IsSessionCall moment v (read_related object place) (own, old) (Err e) (now, new)
-unfolding read_related
-reads_not moment object place p = err_call (λ u. on_own (link_read object place)) p

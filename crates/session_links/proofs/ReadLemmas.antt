@@ -1,14 +1,11 @@
 -- What is told of links are objects of the graph.
-use Rattle.std.proofs.Common.{◌≡◌, ℕ, ◌&&◌, Bool, true, false, List, [], ◌∷◌, length, get_or, Option, None, Some, Result, Ok, Err, IfErr, refl, sym, ap, subst}
+use Rattle.std.proofs.Common.{◌≡◌, ℕ, ◌&&◌, Bool, true, List, [], ◌∷◌, length, get_or, Option, None, Some, sym, subst}
 use Rattle.std.specs.Prelude.{slice_get}
 use Rattle.std.specs.List.{All, list_all}
 use Rattle.std.proofs.lemmas.Bool.{and_parts}
 use Rattle.std.proofs.lemmas.List.Elements.{All-cons, All-nil}
 use Rattle.base_core.specs.declared.ids.ClassId.{ClassId}
 use Rattle.base_core.specs.declared.ids.ObjId.{ObjId}
-use Rattle.base_core.specs.declared.ids.RelNo.{RelNo}
-use Rattle.base_core.specs.declared.refusal.Refusal.{Refusal}
-use Rattle.base_core.specs.declared.refusal.Refusal.TheVariants.{Memory}
 use Rattle.class_types.specs.declared.mapped.Relation.{Relation}
 use Rattle.class_mapping.specs.Mapped.{Mapped, relations_of, root_of}
 use Rattle.object_arena.specs.declared.object.Link.TheVariants as link
@@ -16,15 +13,8 @@ use Rattle.object_arena.specs.declared.object.Object.{Object}
 use Rattle.object_arena.specs.Fit.{IsFit, held_fit, is_of_root, links_fit, no_relation}
 use Rattle.object_arena.specs.Graph.{Graph, IsObject}
 use Rattle.relations.proofs.EndLemmas.{led_made, link_found, of_root_made, roots_long}
-use Rattle.keeper_core.specs.Alone.{IsQuiet}
-use Rattle.keeper_core.specs.Programs.{Run}
-use Rattle.session_scopes.specs.SessionState.{AreAlikeButNotes, SessionState}
-use Rattle.session_calls.specs.Refusals.{Early, IsRefused, entered, fault_in}
-use Rattle.session_calls.specs.Steps.{pending_fault}
-use Rattle.session_calls.proofs.Refusing.{refused_inside}
-use Rattle.session_links.specs.declared.reading.Related.{Related}
 use Rattle.session_links.specs.declared.reading.Related.TheVariants.{One}
-use Rattle.session_links.specs.Reading.{AreToldMade, link_read, related_fault, related_of}
+use Rattle.session_links.specs.Reading.{AreToldMade}
 
 pub end_told : (mapped : Mapped) (graph : Graph) (object : Object) (place : ℕ) (end : Option ObjId) (changed : Bool) → IsFit mapped graph → links_fit mapped graph.roots object ≡ true → slice_get object.links place ≡ Some (link.One end changed) → AreToldMade graph (One end)
 end_told mapped graph object place None changed fit fits found = tt
@@ -43,12 +33,3 @@ members_told mapped graph object place members base told fit fits found is =
     let held : held_fit graph.roots root relation.many (link.Many members base) ≡ true = link_found mapped graph.roots object place (link.Many members base) fits found in
     let both = (and_parts relation.many (list_all (is_of_root graph.roots root) members && list_all (is_of_root graph.roots root) base) held).1 in
     subst (All (IsObject graph)) (sym is) (all_made graph root members (roots_long mapped graph fit) (and_parts (list_all (is_of_root graph.roots root) members) (list_all (is_of_root graph.roots root) base) both).0)
-
--- nothing is told
-pub related_refused : (object : ObjId) (place : RelNo) (own mid : SessionState) (r : Result Related Refusal) → AreAlikeButNotes (entered own) mid → mid.failed ≡ false → IsQuiet (λ (related : Related). related) (link_read object place mid) r mid
-    → IfErr r (λ e. IsRefused (pending_fault own) (related_fault object place own) own e mid)
-unfolding link_read related_of
-related_refused object place own mid (Ok related) alike well told = tt
-related_refused object place own mid (Err Memory) alike well told = Early refl
-related_refused object place own mid (Err e) alike well told =
-    refused_inside (related_fault object place) own mid mid alike well (ap (λ (run : Run SessionState Related). fault_in run.answer) told.0) refl

@@ -1,4 +1,4 @@
-//! Links of a session's objects, over any keeper: they are set, appended to, removed from and read.
+//! Links of a session's objects, over any keeper: they are set, appended to and removed from.
 #![tactic(auto)]
 
 mod changing;
@@ -7,4 +7,4 @@ mod putting;
 mod reading;
 
 pub use changing::{change_inside, change_link, change_of, coming_along};
-pub use reading::{Related, read_related};
+pub use reading::Related;

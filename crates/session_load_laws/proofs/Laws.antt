@@ -1,30 +1,35 @@
 -- The laws of the loads that a session runs.
 use Rattle.std.proofs.Common.{◌≡◌, IfOk, inr, List, refl, sym, subst}
+use Rattle.std.specs.List.{AllByRecursion}
 use Rattle.base_core.specs.declared.ids.AttrNo.{AttrNo}
 use Rattle.base_core.specs.declared.ids.ClassId.{ClassId}
+use Rattle.base_core.specs.declared.ids.ObjId.{ObjId}
 use Rattle.base_core.specs.declared.value.Value.{Value}
 use Rattle.schema_core.specs.Tables.{Tables}
 use Rattle.class_mapping.specs.Mapped.{IsClass, Mapped, root_of}
 use Rattle.expr_types.specs.declared.select.ObjectQuery.{ObjectQuery}
 use Rattle.mapping_laws.specs.Hierarchies.{HasHierarchies}
 use Rattle.table_laws.specs.Legality.{AreSound}
-use Rattle.object_arena.specs.Graph.{Graph}
-use Rattle.keeper_core.specs.Beside.{Beside}
+use Rattle.object_arena.specs.Graph.{Graph, object_at, root_at}
+use Rattle.keeper_core.specs.Beside.{Beside, by_own, on_store}
 use Rattle.keeper_core.specs.Store.{Store}
 use Rattle.load_rows.specs.Loading.{Loading}
+use Rattle.load_rows.specs.Reading.{identity_key}
+use Rattle.load_calls.specs.Reading as load_calls
+use Rattle.load_calls.specs.Refreshing.{read_cells}
 use Rattle.load_targets.specs.Targets.{load_key}
 use Rattle.load_queries.specs.Selectin.{load_query}
 use Rattle.load_steps.specs.Based.{AreReadOfTables, IsRowOfTables}
 use Rattle.load_steps.specs.Loads.{CanLoad, IsLoadStage, Load}
 use Rattle.load_steps.specs.Loaded.{AreReadFrom}
 use Rattle.load_steps.specs.Noted.{AreNotedSince}
-use Rattle.load_steps.specs.Steps.{AreFound, AreLoadSteps, IsEnd, IsOver}
+use Rattle.load_steps.specs.Steps.{AreFound, AreLoadSteps, IsEnd, IsFound, IsOver}
 use Rattle.load_steps.proofs.Filling.{fills_made}
-use Rattle.load_steps.proofs.Lasting.{AreOfMapping}
+use Rattle.load_steps.proofs.Lasting.{AreOfMapping, found_since, lasting_steps}
 use Rattle.load_steps.proofs.Joined.{query_load}
-use Rattle.load_steps.proofs.Lazily.{key_keeps}
+use Rattle.load_steps.proofs.Lazily.{cells_read, key_keeps}
 use Rattle.load_steps.proofs.Loaded.{none_read, read_steps}
-use Rattle.load_steps.proofs.Loads.{load_leaves}
+use Rattle.load_steps.proofs.Loads.{load_leaves, standing_found}
 use Rattle.load_steps.proofs.Noted.{noted_steps}
 use Rattle.ranked_rows.specs.Laws.{MainSelectsAnswerTableRows, OwnSelectsAnswerTableRows, SelectsAnswerTableRows}
 use Rattle.session_calls.specs.Parts.{World}
@@ -95,6 +100,16 @@ module _ (selects : SelectsAnswerTableRows) (owns : OwnSelectsAnswerTableRows) (
   query_told query may =
       let given = can (Load.Query query) may in
       ((query_load of_mapping stage.related reading_steps world.store stage.answers query given.0 given.1 given.2 given.3).left (loading_of world) begun).answer
+
+  -- rows of some cells of an object, of the tables
+  pub cells_told : (object : ObjId) (attrs : List AttrNo) → MayLoad (Load.Rows object attrs) world
+      → IfOk (read_cells mapped object attrs (loading_of world)).answer (λ rows. AllByRecursion (AreCells (object_at start object).class attrs (identity_key start object)) rows)
+  unfolding read_cells by_own load_calls.read on_store
+  cells_told object attrs may =
+      let root : ClassId = root_at start object in
+      let steps = lasting_steps of_mapping (λ graph. IsFound graph root object) (λ old new since found. found_since root object old new since found) in
+      ((cells_read of_mapping steps world.store stage.answers root object (λ own found. found) attrs).left (loading_of world)
+      (record { holds = record { arena = stage.arena; is = standing_found start object stage.arena.graph may.0 }; store = refl }, may.1)).answer
 
   module _ (load : Load) (may : MayLoad load world) where
     abbrev done : Beside Loading

@@ -1,4 +1,6 @@
 pub mod Bridge
 pub mod Laws
 pub mod Going
+pub mod Expiring
+pub mod Anew
 pub mod Readings

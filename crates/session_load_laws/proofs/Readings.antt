@@ -1,5 +1,5 @@
 -- The calls that read rows into objects keep a whole session whole.
-use Rattle.std.proofs.Common.{◌≡◌, ◌<◌, Bool, true, false, not, List, [], ◌∷◌, length, Option, None, Some, Result, Ok, Err, IfOk, refl, sym, ap, ◌∙◌, subst}
+use Rattle.std.proofs.Common.{◌≡◌, ◌<◌, Bool, true, false, List, [], ◌∷◌, length, Option, None, Some, Result, Ok, Err, IfOk, refl, sym, subst}
 use Rattle.std.specs.Prelude.{if◌then◌else◌}
 use Rattle.std.specs.List.{All, AllByRecursion}
 use Rattle.std.proofs.lemmas.List.Elements.{All-from_recursion, All-nil}
@@ -12,14 +12,14 @@ use Rattle.base_core.specs.declared.refusal.Refusal.{Refusal}
 use Rattle.base_core.specs.declared.value.Value.{Value}
 use Rattle.class_mapping.specs.Mapped.{IsClass, Mapped, relations_of, root_of}
 use Rattle.expr_types.specs.declared.select.ObjectQuery.{ObjectQuery}
-use Rattle.object_arena.specs.declared.object.State.{State}
-use Rattle.object_arena.specs.declared.object.State.TheVariants.{Transient, Pending, Persistent, Deleted, Detached}
+use Rattle.object_arena.specs.declared.object.State.TheVariants.{Persistent}
 use Rattle.object_arena.specs.declared.object.Link.{Link}
 use Rattle.object_arena.specs.declared.object.Link.TheVariants as link
 use Rattle.object_arena.specs.Fit.{IsFit, relation_of}
 use Rattle.object_arena.proofs.FitLemmas.{fit_links}
 use Rattle.object_arena.specs.Graph.{Graph, IsObject, is_persistent, object_at}
 use Rattle.object_arena.specs.Identity.{find_identity}
+use Rattle.object_parts.proofs.Expiries.{persistent_is}
 use Rattle.keeper_core.specs.Beside.{Beside, by_own}
 use Rattle.keeper_core.specs.Programs.{Event, Run, ◌>>=◌, continue_from, give}
 use Rattle.relations.specs.declared.calls.LinkCall.{LinkCall}
@@ -34,11 +34,11 @@ use Rattle.load_steps.specs.Loads.{IsStanding, Load}
 use Rattle.load_steps.specs.Steps as steps
 use Rattle.loading_laws.proofs.Strategies.Standing.{found_stands}
 use Rattle.load_queries.specs.Selectin.{IsOption}
-use Rattle.ranked_rows.specs.Queries.{ReadsJoined}
+use Rattle.known_queries.specs.Known.{ReadsJoined}
 use Rattle.ranked_rows.specs.Laws.{MainSelectsAnswerTableRows, OwnSelectsAnswerTableRows, SelectsAnswerTableRows}
 use Rattle.session_scopes.specs.Loads.{on_load}
 use Rattle.session_scopes.specs.SessionState.{GoesOn, SessionState}
-use Rattle.session_calls.specs.Parts.{World, checked, fault_if}
+use Rattle.session_calls.specs.Parts.{World, checked}
 use Rattle.session_calls.specs.Steps.{enter}
 use Rattle.session_links.specs.declared.reading.Related.{Related}
 use Rattle.session_links.specs.Reading.{AreToldMade, is_many, none_related}
@@ -49,13 +49,14 @@ use Rattle.session_loads.specs.Asking.{asked_fault, cell_fault, detached_if, is_
 use Rattle.session_loads.specs.Queries.{load_query, select_objects}
 use Rattle.session_loads.specs.Reads.{change_collection, change_loaded, fetch_link, fetch_members, fill_attached, fill_cell, fill_key, fill_link, find_by_key, found_for, found_under, get, if_asked, load_key, load_link, read_attached, read_cell, read_lacking, read_members, read_related, refresh_cells, related_as, related_in, tell_cell, tell_related, value_in, write_and_fill}
 use Rattle.session_laws.specs.LinkCalls.{IsLinkCall}
-use Rattle.session_laws.specs.Loads.{IsLoadOf, loading_of}
+use Rattle.session_laws.specs.Loads.{loading_of}
 use Rattle.session_laws.specs.Whole.{IsHale}
 use Rattle.session_laws.proofs.Health.Acts.{FlushLeavesSound, FlushWritesAll, IsLed, led_checked, led_then}
 use Rattle.session_laws.proofs.Whole.Inside.{IsWithin}
 use Rattle.session_calls.proofs.Joining.{goes_itself}
 use Rattle.session_load_laws.proofs.Laws.{key_told, leaves_law, query_told}
-use Rattle.session_load_laws.proofs.Going.{IsGoing, change_going, enter_going, flush_going, going_of, load_going}
+use Rattle.session_load_laws.proofs.Going.{IsGoing, change_going, enter_going, flush_going, going_of, loaded_going, passed}
+use Rattle.session_load_laws.proofs.Anew.{refresh_hale}
 use Rattle.session_load_laws.specs.Loads.{LoadsLeaveLoaded, MayLoad, loaded_by}
 use Rattle.session_load_laws.specs.Readings.{GetsTellMade, IsPlace, LinksTellMade, MayRead, QueriesTellMade, Reading, ReadingsGoOn, ReadingsKeepWhole, after_reading}
 
@@ -92,20 +93,9 @@ call_on owner place call old new goes on = record {
 
 -- ---- persistent objects
 
-persistent_by : (state : State) → is_persistent state ≡ true → state ≡ Persistent
-persistent_by Transient is = absurd cc
-persistent_by Pending is = absurd cc
-persistent_by Persistent is = refl
-persistent_by Deleted is = absurd cc
-persistent_by Detached is = absurd cc
-
-passed : (persists : Bool) (fault : Refusal) → fault_if (not persists) fault ≡ None → persists ≡ true
-passed true fault none = refl
-passed false fault none = absurd cc
-
 -- something is to be read of it, and nothing was against that
 attached : (asked : Bool) (object : ObjId) (session : SessionState) → detached_if asked object session ≡ None → asked ≡ true → (object_at session.graph object).state ≡ Persistent
-attached true object session none is = persistent_by (object_at session.graph object).state (passed (is_persistent_in object session) _ none)
+attached true object session none is = persistent_is (object_at session.graph object).state (passed (is_persistent_in object session) _ none)
 attached false object session none is = absurd cc
 
 -- ---- programs
@@ -135,9 +125,7 @@ module _ (loads : LoadsLeaveLoaded) (keeps : FlushLeavesSound) (answers : FlushW
     none : fault w.own ≡ None
 
   load_led : {A : Type 0} (load : Load) (m : Beside Loading → Run (Beside Loading) A) (w : World) → (m (loading_of w)).after ≡ loaded_by load w → MayLoad load w → Within w → IsLed Going Within (on_load m w)
-  load_led load m w is may it =
-      let left = loads load w may it.hale in
-      load_going m first w it (record { store = ap (λ (d : Beside Loading). d.store) is ∙ left.1; loads = subst (IsLoadOf w) (sym (ap (λ (d : Beside Loading). d.own) is)) left.0 })
+  load_led load m w is may it = loaded_going loads load m first w is may it
 
   passes_led : (fault : SessionState → Option Refusal) (w : World) → Within w → IsLed Going (Passes fault) (checked fault w)
   passes_led fault w it = led_checked Going (Passes fault) fault w (going_of it) (λ none. record { within = it; none = none })
@@ -234,7 +222,7 @@ module _ (loads : LoadsLeaveLoaded) (keeps : FlushLeavesSound) (answers : FlushW
     unfolding fill_key by_own
     key_led object w found it =
         let stands = found_stands w.own.graph (root_of w.own.mapping class) key object it.hale.healthy.sound.graph.rooted found in
-        let persistent = persistent_by (object_at w.own.graph object).state (and_parts (is_persistent (object_at w.own.graph object).state) _ stands.1).0 in
+        let persistent = persistent_is (object_at w.own.graph object).state (and_parts (is_persistent (object_at w.own.graph object).state) _ stands.1).0 in
         asked_led (is_key_expired_in object w.own) (refresh_cells object) first w it (λ asked. cells_led object w (stands.0, persistent) it)
 
     under_led : (object : ObjId) (w : World) → find_identity w.own.graph (root_of w.own.mapping class) key ≡ Some object → Within w → Going (found_under class object w).after
@@ -306,18 +294,23 @@ module _ (loads : LoadsLeaveLoaded) (keeps : FlushLeavesSound) (answers : FlushW
       let done = queried query first v (subst (λ (mapped : Mapped). IsSelected mapped query) (sym it.goes.mapping) may) it in
       record { here = done; told = λ a is. done })).here
 
+module _ (selects : SelectsAnswerTableRows) (owns : OwnSelectsAnswerTableRows) (mains : MainSelectsAnswerTableRows) (keeps : FlushLeavesSound) (answers : FlushWritesAll) where
+  law : LoadsLeaveLoaded
+  law = leaves_law selects owns mains
+
   going : (reading : Reading) (w : World) → MayRead reading w → IsHale w → IsGoing w.own (after_reading reading w)
-  going (Reading.Cell object attr) w may hale = read_hale object attr w may hale
-  going (Reading.Link object place) w may hale = related_hale object place w may hale
-  going (Reading.Change owner place call) w may hale = change_hale owner place call w may hale
-  going (Reading.Key class key) w may hale = get_hale class key w may hale
-  going (Reading.Objects query) w may hale = query_hale query w may hale
+  going (Reading.Cell object attr) w may hale = read_hale law keeps answers object attr w may hale
+  going (Reading.Link object place) w may hale = related_hale law keeps answers object place w may hale
+  going (Reading.Change owner place call) w may hale = change_hale law keeps answers owner place call w may hale
+  going (Reading.Key class key) w may hale = get_hale law keeps answers class key w may hale
+  going (Reading.Objects query) w may hale = query_hale law keeps answers query w may hale
+  going (Reading.Anew object) w may hale = refresh_hale selects owns mains keeps answers object w may hale
 
-pub readings_law : LoadsLeaveLoaded → FlushLeavesSound → FlushWritesAll → ReadingsKeepWhole
-readings_law loads keeps answers reading w may hale = (going loads keeps answers reading w may hale).hale
+pub readings_law : SelectsAnswerTableRows → OwnSelectsAnswerTableRows → MainSelectsAnswerTableRows → FlushLeavesSound → FlushWritesAll → ReadingsKeepWhole
+readings_law selects owns mains keeps answers reading w may hale = (going selects owns mains keeps answers reading w may hale).hale
 
-pub goes_law : LoadsLeaveLoaded → FlushLeavesSound → FlushWritesAll → ReadingsGoOn
-goes_law loads keeps answers reading w may hale = (going loads keeps answers reading w may hale).goes
+pub goes_law : SelectsAnswerTableRows → OwnSelectsAnswerTableRows → MainSelectsAnswerTableRows → FlushLeavesSound → FlushWritesAll → ReadingsGoOn
+goes_law selects owns mains keeps answers reading w may hale = (going selects owns mains keeps answers reading w may hale).goes
 
 -- ---- what is told
 

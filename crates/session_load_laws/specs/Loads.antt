@@ -11,7 +11,7 @@ use Rattle.load_steps.specs.Rows.{AreAttributes}
 use Rattle.load_steps.specs.Steps.{AreFound}
 use Rattle.load_queries.specs.Selectin.{IsOption}
 use Rattle.load_steps.specs.Loads.{IsStanding, Load, after_load}
-use Rattle.ranked_rows.specs.Queries.{ReadsClass, ReadsJoined}
+use Rattle.known_queries.specs.Known.{ReadsClass, ReadsJoined}
 use Rattle.session_scopes.specs.Loads.{with_loaded}
 use Rattle.session_scopes.specs.SessionState.{in_transaction}
 use Rattle.session_calls.specs.Parts.{World}

@@ -12,24 +12,25 @@ use Rattle.object_arena.specs.Graph.{IsObject, object_at}
 use Rattle.relations.specs.declared.calls.LinkCall.{LinkCall}
 use Rattle.relations.specs.Keys.{IsEnd}
 use Rattle.load_queries.specs.Selectin.{IsOption}
-use Rattle.ranked_rows.specs.Queries.{ReadsJoined}
+use Rattle.known_queries.specs.Known.{ReadsJoined}
 use Rattle.session_scopes.specs.SessionState.{GoesOn, SessionState}
 use Rattle.session_calls.specs.Parts.{World}
 use Rattle.session_links.specs.declared.reading.Related.{Related}
 use Rattle.session_links.specs.Reading.{AreToldMade}
 use Rattle.session_loads.specs.Queries.{select_objects}
-use Rattle.session_loads.specs.Reads.{change_collection, get, read_cell, read_related}
+use Rattle.session_loads.specs.Reads.{change_collection, get, read_cell, read_related, refresh}
 use Rattle.session_laws.specs.LinkCalls.{IsLinkCall}
 use Rattle.session_laws.specs.Whole.{IsHale}
 
--- what is asked: the value of a cell, what a link leads to, the change of a collection, the object of a class under a key, and the
--- objects of a query
+-- what is asked: the value of a cell, what a link leads to, the change of a collection, the object of a class under a key, the objects
+-- of a query, and an object that is to be read anew
 pub data Reading : Type 0 where
   Cell : ObjId → AttrNo → Reading
   Link : ObjId → RelNo → Reading
   Change : ObjId → RelNo → LinkCall → Reading
   Key : ClassId → List Value → Reading
   Objects : ObjectQuery → Reading
+  Anew : ObjId → Reading
 
 -- the session and the store after it, whatever it answers
 abbrev pub after_reading : Reading → World → World
@@ -38,6 +39,7 @@ after_reading (Link object place) world = (read_related object place world).afte
 after_reading (Change owner place call) world = (change_collection owner place call world).after
 after_reading (Key class key) world = (get class key world).after
 after_reading (Objects query) world = (select_objects query world).after
+after_reading (Anew object) world = (refresh object world).after
 
 -- the relationship at a place of an object that has been made
 pub record IsPlace (object : ObjId) (place : RelNo) (session : SessionState) : Type 0 where
@@ -52,6 +54,7 @@ MayRead (Change owner place call) world = IsLinkCall world.own.mapping world.own
 MayRead (Key class key) world = IsClass world.own.mapping class
 MayRead (Objects query) world =
     ReadsJoined world.own.mapping query × AllByRecursion (IsOption world.own.mapping query.class) query.joined × AllByRecursion (IsOption world.own.mapping query.class) query.selectin
+MayRead (Anew object) world = IsObject world.own.graph object
 
 -- whatever it answers, a whole session stays whole
 abbrev pub ReadingsKeepWhole : Type 0

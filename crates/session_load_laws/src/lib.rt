@@ -38,13 +38,15 @@ pub fn loads_keep_sessions_whole()
 }
 
 /// Whatever a call answers that reads rows into objects, a whole session stays whole: the value of a cell, what a link leads to, the
-/// change of a collection that is to be loaded, the object of a class under a key, and the objects of a query. Each
-/// object that there was is there still, of its class.
+/// change of a collection that is to be loaded, the object of a class under a key, the objects of a query, and an object that is read
+/// anew, with those expired that hang on it. Each object that there was is there still, of its class.
 pub fn readings_keep_sessions_whole()
     ensures whole { ReadingsKeepWhole }
     ensures goes { ReadingsGoOn }
 {
-    loads_leave_loaded();
+    selects_answer_table_rows();
+    own_selects_answer_table_rows();
+    main_selects_answer_table_rows();
     a_flush_keeps_a_told_session_sound();
     an_answered_flush_of_a_told_session_leaves_sound();
 }

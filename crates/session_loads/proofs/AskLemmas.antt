@@ -6,9 +6,7 @@ use Rattle.base_core.specs.declared.ids.RelNo.{RelNo}
 use Rattle.base_core.specs.declared.refusal.Refusal.{Refusal}
 use Rattle.base_core.specs.declared.refusal.Refusal.TheVariants.{Memory}
 use Rattle.object_arena.specs.Identity.{IsGraph}
-use Rattle.object_arena.specs.declared.object.State.{State}
-use Rattle.object_arena.specs.declared.object.State.TheVariants.{Transient, Pending, Persistent, Deleted, Detached}
-use Rattle.object_arena.specs.Graph.{either_fault, is_persistent}
+use Rattle.object_arena.specs.Graph.{either_fault}
 use Rattle.keeper_core.specs.Alone.{IsOwn}
 use Rattle.relations.specs.declared.calls.LinkCall.{LinkCall}
 use Rattle.relations.specs.declared.change.Change.{Change}
@@ -22,15 +20,6 @@ use Rattle.session_objects.specs.Taking.{outsiders}
 use Rattle.session_links.specs.Linking.{coming_if}
 use Rattle.session_links.proofs.Acting.{change_own, told_or}
 use Rattle.session_loads.specs.Asking.{asked_fault, fault_along}
-
--- ---- objects that are persistent
-
-pub persistent_is : (state : State) → is_persistent state ≡ true → state ≡ Persistent
-persistent_is Transient h = absurd cc
-persistent_is Pending h = absurd cc
-persistent_is Persistent h = refl
-persistent_is Deleted h = absurd cc
-persistent_is Detached h = absurd cc
 
 -- nothing is to be read, or the object is persistent
 pub none_detached : (asked persistent : Bool) (fault : Refusal) → fault_if (asked && not persistent) fault ≡ None → asked ≡ true → persistent ≡ true

@@ -11,11 +11,11 @@ use Rattle.keeper_core.specs.Moment.{Moment}
 use Rattle.object_arena.specs.declared.object.State.TheVariants.{Persistent}
 use Rattle.object_arena.specs.Graph.{Graph, IsObject, is_persistent, object_at, root_at}
 use Rattle.object_arena.specs.Identity.{find_identity, has_key, holds}
+use Rattle.object_parts.proofs.Expiries.{persistent_is}
 use Rattle.session_scopes.specs.SessionState.{SessionState}
 use Rattle.session_calls.specs.Calling.{IsSessionCall}
 use Rattle.session_calls.proofs.Joining.{chosen_call}
 use Rattle.session_loads.specs.Reads.{find_by_key, found_for}
-use Rattle.session_loads.proofs.AskLemmas.{persistent_is}
 
 -- it is persistent
 found_here : (graph : Graph) (root : ClassId) (key : List Value) (object : ObjId) → holds root key (object_at graph object, root_at graph object) ≡ true → (object_at graph object).state ≡ Persistent

@@ -1,5 +1,5 @@
 -- The calls that are put together of what is judged of values.
-use Rattle.std.proofs.Common.{◌≡◌, List, length, None, Some, Result, Err, sym, ap, subst}
+use Rattle.std.proofs.Common.{◌≡◌, List, length, Option, None, Some, Result, Err, refl, sym, ap, subst}
 use Rattle.base_core.specs.declared.ids.AttrNo.{AttrNo}
 use Rattle.base_core.specs.declared.ids.ClassId.{ClassId}
 use Rattle.base_core.specs.declared.ids.ObjId.{ObjId}
@@ -7,6 +7,7 @@ use Rattle.base_core.specs.declared.refusal.Refusal.{Refusal}
 use Rattle.base_core.specs.declared.refusal.Refusal.TheVariants.{Memory}
 use Rattle.base_core.specs.declared.value.Value.{Value}
 use Rattle.class_types.specs.Rules.{Rules}
+use Rattle.object_arena.specs.Graph.{either_fault, object_at, value_fault}
 use Rattle.keeper_core.specs.Alone.{IsOwn, IsQuiet}
 use Rattle.keeper_core.specs.Store.{Store}
 use Rattle.keeper_core.specs.Programs.{Run, quiet}
@@ -18,7 +19,7 @@ use Rattle.session_calls.specs.Calling.{IsSessionCall}
 use Rattle.session_calls.specs.Parts.{World}
 use Rattle.session_calls.specs.Steps as calls
 use Rattle.session_calls.proofs.Joining.{err_call, fails, passes, goes_itself, stays_there, then_call}
-use Rattle.session_objects.specs.ValueSteps.{cell_kept, given_fault, made_unless, set_inside, set_judged, set_valid, valid_made, value_invalid}
+use Rattle.session_objects.specs.ValueSteps.{cell_kept, given_fault, made_unless, set_inside, set_judged, set_valid, valid_made, value_invalid, value_untaken}
 
 -- ---- objects are made
 
@@ -37,6 +38,14 @@ unfolding valid_made
 is_made rules class given session now r none quiet = subst (λ f. IsQuiet (λ (o : ObjId). o) (made_unless f class given session) r now) none quiet
 
 -- ---- cells are set
+
+no_first : (a b : Option Refusal) → None ≡ either_fault a b → a ≡ None
+no_first None b none = refl
+no_first (Some fault) b none = absurd cc
+
+-- a value that nothing is against is of its attribute's kind
+pub of_kind : (rules : Rules) (object : ObjId) (attr : AttrNo) (value : Value) (session : SessionState) → None ≡ value_invalid rules object attr value session → value_fault session.mapping (object_at session.graph object) attr value ≡ None
+of_kind rules object attr value session none = no_first (value_fault session.mapping (object_at session.graph object) attr value) (value_untaken rules object attr value session) none
 
 -- there was no memory
 pub full_call : {A X K : Type 0} (moment : K → Moment Store) {v : X → A} {m : World → Run World A} {own : SessionState} {keeper : K} → IsInStep own (moment keeper) → IsSessionCall moment v m (own, keeper) (Err Memory) (own, keeper)

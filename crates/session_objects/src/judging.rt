@@ -13,6 +13,7 @@ use base_core::{AttrNo, ClassId, Copied, Name, Refusal, RequestKind, Value};
 use class_mapping::Mapping;
 use class_types::{Attribute, Hooks};
 use object_parts::first_refusing;
+use session_scopes::first_fault;
 use std::alloc::AllocError;
 
 /// Why a value is not given to an attribute of a class: the first validator that does not take it.
@@ -95,8 +96,8 @@ fn sets_discriminator(mapping: &Mapping, class: ClassId, given: &[(AttrNo, Value
     false
 }
 
-/// Why an object of a class is not made with these values: a validator does not take one of them, or one is for the
-/// discriminator.
+/// Why an object of a class is not made with these values: one of them is of another kind, a validator does not take one, or one is
+/// for the discriminator.
 pub(crate) fn given_fault(
     mapping: &Mapping,
     hooks: &Hooks,
@@ -109,6 +110,9 @@ pub(crate) fn given_fault(
         ≡ steps.given_fault (rules_of hooks.now) mapping.now class given.now) }
     ensures own { IfOk result (λ fault. IfSome fault IsOwn) }
 {
+    if let Some(fault) = first_fault(mapping, class, given) {
+        return Ok(Some(fault));
+    }
     match first_invalid(mapping, hooks, class, given)? {
         Some(fault) => Ok(Some(fault)),
         None => Ok(discriminator_if(sets_discriminator(mapping, class, given))),

@@ -1,3 +1,4 @@
+mod LinkCalls
 mod Performed
 pub mod Sendable
 pub mod Refusing

@@ -9,6 +9,8 @@ use Rattle.keeper_core.specs.Programs.{Run, ends_early}
 use Rattle.keeper_core.specs.Moment.{Moment}
 use Rattle.session_scopes.specs.SessionState.{SessionState}
 use Rattle.session_calls.specs.Refusals.{Before, Early, IsRefused, fault_in}
+use Rattle.session_acts.specs.Refusals.{Asked}
+use Rattle.session_loads.specs.Refusals.{IsRefusedLoading, Refusing, Unflushed}
 use Rattle.command_resolve.specs.declared.answer.Answer.{Answer}
 use Rattle.command_resolve.specs.declared.resolved.Resolved.{Resolved}
 use Rattle.session_perform.specs.Performing.{nothing_told}
@@ -34,7 +36,8 @@ made_refused run old now (Ok x) quiet same = tt
 made_refused run old now (Err Memory) quiet same = Early refl
 made_refused {X = X} run old now (Err e) quiet same = Before (ap (λ (told : Run SessionState X). fault_in told.answer) quiet.0) same
 
--- there was no memory for what is told
-pub full_refused : {X : Type 0} (before inside : Option Refusal) (old now : SessionState) (r : Result X Refusal) → IfErr r (λ e. e ≡ Memory) → IfErr r (λ e. IsRefused before inside old e now)
-full_refused before inside old now (Ok x) cause = tt
-full_refused before inside old now (Err e) cause = Early (ap ends_early cause)
+-- there was no memory for what is told of rows that were read
+pub full_reading : {X : Type 0} (before inside : Option Refusal) (again : SessionState → Option Refusal) (Then : Refusing) (old new : SessionState) (was now : Moment Store) (r : Result X Refusal) → IfErr r (λ e. e ≡ Memory)
+    → IfErr r (λ e. IsRefusedLoading before inside again Then old was e new now)
+full_reading before inside again Then old new was now (Ok x) cause = tt
+full_reading before inside again Then old new was now (Err e) cause = Unflushed (Asked (Early (ap ends_early cause)))

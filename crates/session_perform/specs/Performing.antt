@@ -24,6 +24,11 @@ use Rattle.session_links.specs.Steps as links
 use Rattle.session_links.specs.declared.reading.Related.{Related}
 use Rattle.session_links.specs.declared.reading.Related.TheVariants.{One, Many}
 use Rattle.session_acts.specs.Steps as acts
+use Rattle.session_loads.specs.Queries as queries
+use Rattle.session_loads.specs.Reads as reads
+use Rattle.relations.specs.declared.calls.LinkCall.{LinkCall}
+use Rattle.relations.specs.declared.calls.LinkCall.TheVariants.{Set}
+use Rattle.expr_types.specs.declared.select.ObjectQuery.{ObjectQuery}
 use Rattle.session_tables.specs.Dump.{scan_tables}
 use Rattle.shell_parts.specs.declared.names.Bound.{Bound}
 use Rattle.shell_parts.specs.declared.names.Bound.TheVariants.{Nothing, Object, Objects, Saved}
@@ -85,7 +90,24 @@ link_shown graph (Many members) = Objects (map (with_class graph) members)
 
 -- what a link holds
 abbrev pub read_link : ObjId → RelNo → World → Run World Answer
-read_link object relation = links.read_related object relation >>= λ related. as_it_is (λ session. answer.Thing (link_shown session.graph related))
+read_link object relation = reads.read_related object relation >>= λ related. as_it_is (λ session. answer.Thing (link_shown session.graph related))
+
+-- the name is to stand for what a link holds
+abbrev pub bind_related : List ℕ → ObjId → RelNo → World → Run World Answer
+bind_related name object relation = reads.read_related object relation >>= λ related. as_it_is (λ session. answer.Bind name (link_shown session.graph related))
+
+-- the name is to stand for the object of a class under a key, which may be of a class under this one, or for none
+abbrev pub get : List ℕ → ClassId → List Value → World → Run World Answer
+get name class key = reads.get class key >>= λ found. as_it_is (λ session. answer.Bind name (link_shown session.graph (One found)))
+
+-- the name is to stand for the objects of a query
+abbrev pub select_objects : List ℕ → ObjectQuery → World → Run World Answer
+select_objects name query = queries.select_objects query >>= λ objects. as_it_is (λ session. answer.Bind name (link_shown session.graph (Many objects)))
+
+-- a link is set, or a member is appended to a collection or removed from it
+abbrev pub change_link : ObjId → RelNo → LinkCall → World → Run World (Unit {0})
+change_link owner relation (Set end) = links.change_link owner relation (Set end)
+change_link owner relation call = reads.change_collection owner relation call
 
 -- whether two objects are one
 abbrev pub same : ObjId → ObjId → Answer
@@ -97,13 +119,17 @@ program_of_resolved rules resolved.CreateAll = quietly (change_all Create)
 program_of_resolved rules resolved.DropAll = quietly (change_all Drop)
 program_of_resolved rules resolved.Dump = telling answer.Tables scan_tables
 program_of_resolved rules (resolved.New name class cells) = make rules name class cells
+program_of_resolved rules (resolved.Get name class key) = get name class key
+program_of_resolved rules (resolved.Objects name query) = select_objects name query
+program_of_resolved rules (resolved.Related name object relation) = bind_related name object relation
 program_of_resolved rules (resolved.BeginNested name) = begin_nested name
 program_of_resolved rules (resolved.SetCell object attr value) = quietly (values.set_valid rules object attr value)
-program_of_resolved rules (resolved.ChangeLink owner relation call) = quietly (links.change_link owner relation call)
+program_of_resolved rules (resolved.ChangeLink owner relation call) = quietly (change_link owner relation call)
 program_of_resolved rules (resolved.Add object) = quietly (add object)
 program_of_resolved rules (resolved.Delete object) = quietly (calls.delete object)
+program_of_resolved rules (resolved.Refresh object) = quietly (reads.refresh object)
 program_of_resolved rules (resolved.Show thing) = give (answer.Thing thing)
-program_of_resolved rules (resolved.ShowCell object attr) = telling answer.Value (calls.read_cell object attr)
+program_of_resolved rules (resolved.ShowCell object attr) = telling answer.Value (reads.read_cell object attr)
 program_of_resolved rules (resolved.ShowLink object relation) = read_link object relation
 program_of_resolved rules (resolved.State object) = as_it_is (state_of object)
 program_of_resolved rules (resolved.Same object other) = give (same object other)

@@ -2,8 +2,10 @@
 #![tactic(auto)]
 
 mod acting;
+mod changing;
 mod links;
 mod objects;
 mod performing;
+mod reading;
 
 pub use performing::perform;

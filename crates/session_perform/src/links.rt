@@ -1,22 +1,24 @@
-//! What links hold.
+//! What links hold, and the objects that rows are read for.
 
 ghost use Rattle.std.specs.Prelude.{◌≡◌, ◌<◌, length, map, IfErr, IfOk};
 ghost use Rattle.std.specs.List.{All};
 ghost use Rattle.class_types.specs.Rules.{Rules};
 ghost use Rattle.class_mapping.specs.Mapped.{IsClass, relations_of};
 ghost use Rattle.object_arena.specs.Graph.{IsObject, object_at};
-ghost use Rattle.command_resolve.specs.declared.answer.Answer.TheVariants as answer;
+ghost use Rattle.relations.specs.Keys.{IsEnd};
+ghost use Rattle.command_names.specs.Standing.{IsOfDeclared, IsThere};
 ghost use Rattle.command_resolve.specs.declared.resolved.Resolved.TheVariants as resolved;
-ghost use Rattle.command_resolve.specs.Standing.{IsAnswer};
 ghost use Rattle.session_links.specs.Reading.{AreToldMade};
+ghost use Rattle.session_links.specs.declared.reading.Related.TheVariants.{Many, One};
 ghost use Rattle.session_scopes.specs.SessionState.{IsInStep, IsMadeOf};
 ghost use Rattle.session_perform.specs.Performing as spec;
 ghost use Rattle.session_perform.specs.Refused.{IsRefusedLine};
 
-use base_core::{ClassId, ListOf, ObjId, Refusal, RelNo};
+use base_core::{ClassId, ListOf, Name, ObjId, Refusal, RelNo};
 use command_resolve::Answer;
 use keeper_core::Keeper;
-use session_links::{Related, read_related};
+use session_links::Related;
+use session_loads::read_related;
 use session_scopes::Session;
 use shell_parts::Bound;
 use std::alloc::AllocError;
@@ -24,7 +26,7 @@ use std::alloc::AllocError;
 /// What a link holds: an object or none, or the members of a collection.
 ///
 /// # Errors
-/// As those of `session_links::read_related`.
+/// As those of `session_loads::read_related`.
 pub(crate) fn read_link<K: Keeper>(
     session: &mut Session,
     keeper: &mut K,
@@ -41,24 +43,62 @@ pub(crate) fn read_link<K: Keeper>(
         session.old (K.moment keeper.old) e session.new (K.moment keeper.new)) }
 {
     let related = read_related(session, keeper, object, relation)?;
-    let told = link_told(session, related)?;
-    Ok(told)
+    let thing = link_shown(session, related)?;
+    Ok(Answer::Thing(thing))
+}
+
+/// What a link holds is bound to a name.
+///
+/// # Errors
+/// As those of `session_loads::read_related`.
+pub(crate) fn bind_related<K: Keeper>(
+    session: &mut Session,
+    keeper: &mut K,
+    name: Name,
+    object: ObjId,
+    relation: RelNo,
+) -> Result<Answer, Refusal>
+    requires in_step { IsInStep session.old (K.moment keeper.old) }
+    requires object { IsObject session.old.graph object }
+    requires relation { relation.0
+        < length (relations_of session.old.mapping (object_at session.old.graph object).class) }
+    ensures performed { spec.IsPerformed K.moment (spec.bind_related name object relation)
+        (session.old, keeper.old) result (session.new, keeper.new) }
+    ensures refused { (rules : Rules) → IfErr result (λ e. IsRefusedLine
+        rules (resolved.Related name object relation)
+        session.old (K.moment keeper.old) e session.new (K.moment keeper.new)) }
+{
+    let related = read_related(session, keeper, object, relation)?;
+    let thing = link_shown(session, related)?;
+    Ok(Answer::Bind(name, thing))
 }
 
 /// What a link holds is told, with the classes of its objects.
-fn link_told(session: &Session, related: Related) -> Result<Answer, AllocError>
+pub(crate) fn link_shown(session: &Session, related: Related) -> Result<Bound, AllocError>
     requires { AreToldMade session.now.graph related }
-    ensures told { IfOk result (λ a. a ≡ answer.Thing (spec.link_shown session.now.graph related)) }
-    ensures there { IfOk result (λ a. IsAnswer session.now.mapping session.now.graph
-        session.now.drawn.drawn (answer.Thing (spec.link_shown session.now.graph related))) }
+    ensures shown { IfOk result (λ thing. thing ≡ spec.link_shown session.now.graph related) }
+    ensures there { IfOk result (IsThere session.now.graph session.now.drawn.drawn) }
+    ensures declared { IfOk result (IsOfDeclared session.now.mapping) }
 {
     match related {
-        Related::One(None) => Ok(Answer::Thing(Bound::Nothing)),
-        Related::One(Some(end)) => Ok(Answer::Thing(Bound::Object(end, session.object(end).class))),
+        Related::One(end) => Ok(end_shown(session, end)),
         Related::Many(members) => {
             let all = with_classes(session, members.as_slice())?;
-            Ok(Answer::Thing(Bound::Objects(all)))
+            Ok(Bound::Objects(all))
         }
+    }
+}
+
+/// An object, or none, is told with its class.
+pub(crate) fn end_shown(session: &Session, end: Option<ObjId>) -> Bound
+    requires { IsEnd session.now.graph end }
+    ensures shown { result ≡ spec.link_shown session.now.graph (One end) }
+    ensures there { IsThere session.now.graph session.now.drawn.drawn result }
+    ensures declared { IsOfDeclared session.now.mapping result }
+{
+    match end {
+        None => Bound::Nothing,
+        Some(object) => Bound::Object(object, session.object(object).class),
     }
 }
 

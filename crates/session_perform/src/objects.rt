@@ -8,7 +8,7 @@ ghost use Rattle.class_mapping.specs.Mapped.{IsAttribute, IsClass};
 ghost use Rattle.object_arena.specs.Graph.{IsObject, object_at};
 ghost use Rattle.command_resolve.specs.declared.answer.Answer.TheVariants as answer;
 ghost use Rattle.session_scopes.specs.SessionState.{IsInStep};
-ghost use Rattle.session_calls.specs.Steps as calls;
+ghost use Rattle.session_loads.specs.Reads as reads;
 ghost use Rattle.command_resolve.specs.declared.resolved.Resolved.TheVariants as resolved;
 ghost use Rattle.session_perform.specs.Performing as spec;
 ghost use Rattle.session_perform.specs.Refused.{IsRefusedLine};
@@ -49,7 +49,7 @@ pub(crate) fn make<K: Keeper>(
 /// The value of a cell.
 ///
 /// # Errors
-/// As those of `session_calls::read_cell`.
+/// As those of `session_loads::read_cell`.
 pub(crate) fn read_cell<K: Keeper>(
     session: &mut Session,
     keeper: &mut K,
@@ -60,12 +60,12 @@ pub(crate) fn read_cell<K: Keeper>(
     requires object { IsObject session.old.graph object }
     requires attr { IsAttribute session.old.mapping
         (object_at session.old.graph object).class attr }
-    ensures performed { spec.IsPerformed K.moment (spec.telling answer.Value (calls.read_cell object attr))
+    ensures performed { spec.IsPerformed K.moment (spec.telling answer.Value (reads.read_cell object attr))
         (session.old, keeper.old) result (session.new, keeper.new) }
     ensures refused { (rules : Rules) → IfErr result (λ e. IsRefusedLine rules (resolved.ShowCell object attr)
         session.old (K.moment keeper.old) e session.new (K.moment keeper.new)) }
 {
-    let value = session_calls::read_cell(session, keeper, object, attr)?;
+    let value = session_loads::read_cell(session, keeper, object, attr)?;
     Ok(Answer::Value(value))
 }
 

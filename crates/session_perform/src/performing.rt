@@ -7,15 +7,17 @@ ghost use Rattle.session_perform.specs.Performing.{IsPerformed, IsReady, program
 ghost use Rattle.session_perform.specs.Refused.{IsRefusedLine};
 
 use crate::acting::{begin_nested, bulk, commit, nothing_told, roll_back, rows, tables};
-use crate::links::read_link;
+use crate::changing::change_link;
+use crate::links::{bind_related, read_link};
 use crate::objects::{make, read_cell, same, state};
+use crate::reading::{get, select_objects};
 use base_core::Refusal;
 use class_types::Hooks;
 use command_resolve::{Answer, Resolved};
 use keeper_core::Keeper;
 use session_acts::flush_now;
 use session_calls::{close, delete};
-use session_links::change_link;
+use session_loads::refresh;
 use session_objects::{add, set_valid};
 use session_scopes::Session;
 use session_tables::{create_all, drop_all};
@@ -52,6 +54,13 @@ pub fn perform<K: Keeper>(
             class,
             cells.as_slice(),
         ),
+        Resolved::Get { name, class, key } => get(session, keeper, name, class, &key),
+        Resolved::Objects { name, query } => select_objects(session, keeper, name, query.get()),
+        Resolved::Related {
+            name,
+            object,
+            relation,
+        } => bind_related(session, keeper, name, object, relation),
         Resolved::BeginNested(name) => begin_nested(session, keeper, name),
         Resolved::SetCell {
             object,
@@ -65,6 +74,7 @@ pub fn perform<K: Keeper>(
         } => nothing_told(change_link(session, keeper, owner, relation, call)),
         Resolved::Add(object) => nothing_told(add(session, keeper, object)),
         Resolved::Delete(object) => nothing_told(delete(session, keeper, object)),
+        Resolved::Refresh(object) => nothing_told(refresh(session, keeper, object)),
         Resolved::Show(thing) => Ok(Answer::Thing(thing)),
         Resolved::ShowCell(object, attr) => read_cell(session, keeper, object, attr),
         Resolved::ShowLink(object, relation) => read_link(session, keeper, object, relation),

@@ -1,17 +1,15 @@
 -- What a session does to one object in the transaction, or why it does not.
-use Rattle.std.specs.Prelude.{Bool, true, not, ◌&&◌, ◌||◌, length, nat_lt, Option, None, Some, is_some, Result, Ok, Err, if◌then◌else◌}
+use Rattle.std.specs.Prelude.{Bool, true, not, ◌&&◌, ◌||◌, length, nat_lt, Option, None, Some, is_some, Ok, Err, if◌then◌else◌}
 use Rattle.std.specs.List.{list_all}
 use Rattle.base_core.specs.declared.ids.AttrNo.{AttrNo}
 use Rattle.base_core.specs.declared.ids.ObjId.{ObjId}
 use Rattle.base_core.specs.declared.refusal.Refusal.{Refusal}
-use Rattle.base_core.specs.declared.refusal.Refusal.TheVariants.{DetachedInstanceError, InvalidRequestError, NotBuilt}
+use Rattle.base_core.specs.declared.refusal.Refusal.TheVariants.{InvalidRequestError, NotBuilt}
 use Rattle.base_core.specs.declared.refusal.RequestKind.TheVariants.{NotPersistent}
 use Rattle.base_core.specs.declared.value.Value.{Value}
 use Rattle.object_arena.specs.declared.object.Cell.{Cell}
 use Rattle.object_arena.specs.declared.object.Object.{Object}
-use Rattle.object_arena.specs.declared.object.State.{State}
-use Rattle.object_arena.specs.declared.object.State.TheVariants.{Persistent}
-use Rattle.object_arena.specs.Graph.{Graph, cell_at, is_persistent, key_fault, object_at, with_object, with_value}
+use Rattle.object_arena.specs.Graph.{Graph, is_persistent, key_fault, object_at, with_object, with_value}
 pub use Rattle.object_parts.specs.Cells.{is_kept_cell}
 use Rattle.keeper_core.specs.Programs.{Run, quiet}
 use Rattle.session_scopes.specs.SessionState.{SessionState, with_graph}
@@ -44,13 +42,3 @@ delete_fault object =
 unfoldable pub deletion_marked : ObjId → SessionState → Run SessionState (Unit {0})
 deletion_marked object session =
     changed_unless (delete_fault (object_at session.graph object)) (with_object session.graph object (record (object_at session.graph object) { marked = true })) session
-
--- what is read of a cell: its value; an expired one of a persistent object is to be read from its row, which is not built, and
--- of any other object no row is read
-abbrev pub read_of : Option Value → State → ObjId → Result Value Refusal
-read_of (Some value) state object = Ok value
-read_of None Persistent object = Err NotBuilt
-read_of None state object = Err (DetachedInstanceError object)
-
-unfoldable pub cell_read : ObjId → AttrNo → SessionState → Run SessionState Value
-cell_read object attr session = quiet (read_of (cell_at session.graph object attr).value (object_at session.graph object).state object) session

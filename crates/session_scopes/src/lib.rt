@@ -9,6 +9,6 @@ mod step;
 
 pub use handles::Handles;
 pub use load::ObjectLoad;
-pub use making::{Given, put_given};
+pub use making::{Given, first_fault, put_given};
 pub use session::Session;
 pub use step::ObjectStep;

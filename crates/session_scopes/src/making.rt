@@ -20,11 +20,7 @@ pub type Given = Vec<(AttrNo, Value)>;
 
 /// Why values are not taken for attributes of a class: the first that is not NULL and of another kind.
 #[tactic(auto, using(crate::proofs::MakingLemmas::faults))]
-pub(crate) fn first_fault(
-    mapping: &Mapping,
-    class: ClassId,
-    given: &[(AttrNo, Value)],
-) -> Option<Refusal>
+pub fn first_fault(mapping: &Mapping, class: ClassId, given: &[(AttrNo, Value)]) -> Option<Refusal>
     requires declared { IsClass mapping.now class }
     requires attributes { All (λ one. IsAttribute mapping.now class one.0) given.now }
     ensures fault { result ≡ spec.first_given_fault mapping.now class given.now }

@@ -23,7 +23,7 @@ ghost use Rattle.session_scopes.specs.SessionState.{AreAlikeButNotes, AreThereSt
 use crate::load::{append_notes, touch_filled};
 use crate::making::{copy_of, first_fault, put_given};
 use crate::{Handles, ObjectLoad, ObjectStep};
-use base_core::{AttrNo, ClassId, Copied, ObjId, Refusal, RequestKind, Value, Warning};
+use base_core::{AttrNo, ClassId, ObjId, Refusal, RequestKind, Value, Warning};
 use class_mapping::Mapping;
 use keeper_core::{Keeper, Note, Notes, Sent, calls};
 use object_arena::{Arena, Cell, Object, State};
@@ -498,29 +498,6 @@ impl Session {
         touch_for_mark(&mut self.frames, &self.arena, object)?;
         self.arena.put_marks(object, added, true, orphan);
         Ok(())
-    }
-
-    /// The value of a cell.
-    ///
-    /// # Errors
-    /// `NotBuilt` for an expired cell of a persistent object, `DetachedInstanceError` for one of any other object.
-    #[tactic(auto, unfolding(crate::specs::Changes::cell_read))]
-    pub fn read(&self, object: ObjId, attr: AttrNo) -> Result<Value, Refusal>
-        requires object { IsObject self.now.graph object }
-        requires attr { IsAttribute self.now.mapping (object_at self.now.graph object).class attr }
-        ensures { IsQuiet
-            (λ value. value) (changes.cell_read object attr self.now) result self.now }
-    {
-        let record = self.object(object);
-        match &record.cells.at(attr.0 as usize).value {
-            Some(value) => Ok(value.copied()?),
-            None => match record.state {
-                State::Persistent => Err(Refusal::NotBuilt),
-                State::Transient | State::Pending | State::Deleted | State::Detached => Err(
-                    Refusal::DetachedInstanceError(object),
-                ),
-            },
-        }
     }
 }
 

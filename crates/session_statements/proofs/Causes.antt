@@ -16,7 +16,7 @@ use Rattle.keeper_core.specs.Moment.{IsCalm, Moment, counters}
 use Rattle.keeper_core.specs.Store.{Store}
 use Rattle.keeper_core.specs.Keeping.{IsLeft, IsUndone}
 use Rattle.plan_statements.specs.Known.{is_sendable}
-use Rattle.session_statements.specs.Run.{IsCause, WasGivenStale, WasRefused, WasStopped, WasUnfit}
+use Rattle.session_statements.specs.Run.{IsCause, WasGiven, WasGivenStale, WasRefused, WasStopped, WasUnfit}
 
 -- ---- one statement
 
@@ -43,10 +43,10 @@ stopped_cause schema changes plan old new e p = weaker (ends_early e) (λ q. inl
 pub memory_cause : (schema : Catalog) (changes : RowChanges) (plan : List Planned) (old new : Moment Store) (e : Refusal) → e ≡ Memory → IsCause schema changes plan old e new
 memory_cause schema changes plan old new e is = early (WasRefused old e new ⊎ (WasGivenStale schema changes plan e ⊎ WasUnfit schema changes plan e)) e is
 
-pub stale_cause : (schema : Catalog) (changes : RowChanges) (planned : Planned) (answered : List (List Value)) (old new : Moment Store) (e : Refusal) → was_missing schema changes planned answered ≡ true → e ≡ StaleDataError (table_of planned) → IsCause schema changes (planned ∷ []) old e new
-stale_cause schema changes planned answered old new e missing is =
+pub stale_cause : (schema : Catalog) (changes : RowChanges) (planned : Planned) (answered : List (List Value)) → WasGiven schema changes planned answered → (old new : Moment Store) (e : Refusal) → was_missing schema changes planned answered ≡ true → e ≡ StaleDataError (table_of planned) → IsCause schema changes (planned ∷ []) old e new
+stale_cause schema changes planned answered given old new e missing is =
     subst (λ (d : Refusal). IsCause schema changes (planned ∷ []) old d new) (sym is)
-    (inr (inl (planned, answered, (0, omega arith, refl), missing, refl)))
+    (inr (inl (planned, answered, (0, omega arith, refl), given, missing, refl)))
 
 pub unfit_cause : (schema : Catalog) (changes : RowChanges) (planned : Planned) (keys : Keys) (old new : Moment Store) (e : Refusal) → is_sendable schema changes keys planned ≡ false → e ≡ NotBuilt → IsCause schema changes (planned ∷ []) old e new
 unfit_cause schema changes planned keys old new e fails is =
@@ -69,7 +69,7 @@ later_cause schema changes plan i planned old mid new e within is calm p = weake
   where
     by : WasRefused mid e new ⊎ (WasGivenStale schema changes (planned ∷ []) e ⊎ WasUnfit schema changes (planned ∷ []) e) → WasRefused old e new ⊎ (WasGivenStale schema changes plan e ⊎ WasUnfit schema changes plan e)
     by (inl refused) = inl (subst (λ (n : ℕ). Rose n new.refusals) calm.0 refused.0, refused.1, refused.2)
-    by (inr (inl given)) = inr (inl (given.0, given.1, contained plan i planned given.0 within is given.2, given.3, given.4))
+    by (inr (inl given)) = inr (inl (given.0, given.1, contained plan i planned given.0 within is given.2, given.3, given.4, given.5))
     by (inr (inr failed)) = inr (inr (failed.0, failed.1, contained plan i planned failed.0 within is failed.2, failed.3, failed.4))
 
 -- the same refusal, as the answer of the call around

@@ -8,6 +8,7 @@ use Rattle.base_core.specs.declared.value.Value.{Value}
 use Rattle.schema_core.specs.declared.changes.Planned.{Planned}
 use Rattle.schema_core.specs.declared.changes.RowChanges.{RowChanges}
 use Rattle.schema_core.specs.Catalog.{Catalog}
+use Rattle.schema_core.specs.WellFormed.{AreKeysFor}
 use Rattle.flush_plan.specs.Flushing.{Keys, key_of_new, keys_then, statement_sent, table_of, was_missing}
 use Rattle.keeper_core.specs.declared.sent.Sent.{Sent}
 use Rattle.keeper_core.specs.Programs.{Run, ◌>>=◌, each, ends_early, give, refuse}
@@ -52,10 +53,18 @@ WasRefused old e new = Rose old.refusals new.refusals × (statement : Sent) × (
 abbrev pub WasStopped : {W : Type 0} → Moment W → Refusal → Moment W → Type 0
 WasStopped old e new = MatchBool (ends_early e) (Unit {0}) (WasRefused old e new)
 
+-- A statement of the plan was sent and accepted, and its rows have these keys: an INSERT's own, where it gives them, and else ones that
+-- its table's keys may have.
+pub record WasGiven (schema : Catalog) (changes : RowChanges) (planned : Planned) (answered : List (List Value)) : Type 0 where
+  pub keys : Keys
+  pub fits : is_sendable schema changes keys planned ≡ true
+  pub shape : AreKeysFor schema (statement_sent schema changes keys planned) answered
+
 -- an INSERT of the plan was given the key of a row that is changed or deleted
 abbrev pub WasGivenStale : Catalog → RowChanges → List Planned → Refusal → Type 0
 WasGivenStale schema changes plan e =
-    (planned : Planned) × (answered : List (List Value)) × Contains plan planned × (was_missing schema changes planned answered ≡ true) × (e ≡ StaleDataError (table_of planned))
+    (planned : Planned) × (answered : List (List Value)) × Contains plan planned × WasGiven schema changes planned answered
+    × (was_missing schema changes planned answered ≡ true) × (e ≡ StaleDataError (table_of planned))
 
 -- a statement of the plan did not fit the schema
 abbrev pub WasUnfit : Catalog → RowChanges → List Planned → Refusal → Type 0

@@ -42,8 +42,10 @@ fn send_fitting<K: Keeper>(
         (run.send_one session.old.mapping.schema changes planned.now keys)
         (session.old, keeper.old) result (session.new, keeper.new) }
     ensures alike { AreAlikeButNotes session.old session.new }
-    ensures cause { (changes : RowChanges)
+    ensures cause { (changes : RowChanges) (known : List (List Value))
         → AreStalePlaces session.old.mapping.schema changes places.now
+        → is_sendable session.old.mapping.schema changes (keys_at known) planned.now ≡ true
+        → statement.now ≡ statement_sent session.old.mapping.schema changes (keys_at known) planned.now
         → IfErr result (λ e. IsCause session.old.mapping.schema changes
         (planned.now ∷ []) (K.moment keeper.old) e (K.moment keeper.new)) }
 {

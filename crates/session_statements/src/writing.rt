@@ -1,8 +1,8 @@
 //! One statement on rows, noted by the session.
 
-ghost use Rattle.std.specs.Prelude.{◌≡◌, ◌<◌, length, IfErr, OnErr, OnOk};
+ghost use Rattle.std.specs.Prelude.{◌≡◌, ◌<◌, length, IfErr, IfOk, OnErr, OnOk};
 ghost use Rattle.base_core.specs.declared.refusal.Refusal.TheVariants.{Memory};
-ghost use Rattle.schema_core.specs.WellFormed.{IsWellFormed};
+ghost use Rattle.schema_core.specs.WellFormed.{AreKeysFor, IsWellFormed};
 ghost use Rattle.keeper_core.specs.declared.sent.Sent.TheVariants as sent;
 ghost use Rattle.keeper_core.specs.Beside.{on_store};
 ghost use Rattle.keeper_core.specs.Calls as call;
@@ -41,6 +41,8 @@ pub(crate) fn write_noted<K: Keeper>(
         (on_store with_notes (call.write session.old.mapping.schema statement.now))
         (session.old, keeper.old) result (session.new, keeper.new) }
     ensures alike { AreAlikeButNotes session.old session.new }
+    ensures keys { IfOk result
+        (λ keys. AreKeysFor session.old.mapping.schema statement.now keys) }
     ensures cause { IfErr result
         (λ e. WasStopped (K.moment keeper.old) e (K.moment keeper.new)) }
 {

@@ -12,6 +12,9 @@ is_built line.CreateAll = true
 is_built line.DropAll = true
 is_built line.Dump = true
 is_built (line.New name class cells) = true
+is_built (line.Get name class key) = true
+is_built (line.Objects name query) = true
+is_built (line.Related name term member) = true
 is_built (line.BeginNested name) = true
 is_built (line.SetValue term member value) = true
 is_built (line.SetTerm term member other) = true
@@ -19,6 +22,7 @@ is_built (line.Append term member other) = true
 is_built (line.Remove term member other) = true
 is_built (line.Add term) = true
 is_built (line.Delete term) = true
+is_built (line.Refresh term) = true
 is_built (line.Show term) = true
 is_built (line.ShowMember term member) = true
 is_built (line.State term) = true
@@ -31,9 +35,10 @@ is_built (line.Rows select) = true
 is_built (line.Bulk statement) = true
 is_built other = false
 
--- the line only compiles; what objects compile to is yet to come
+-- the line only compiles
 abbrev pub is_compiled : Command → Bool
 is_compiled (line.CompileRows dialect select) = true
+is_compiled (line.CompileObjects dialect query) = true
 is_compiled (line.CompileBulk dialect statement) = true
 is_compiled (line.CompileTable dialect name) = true
 is_compiled other = false

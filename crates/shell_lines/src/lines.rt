@@ -17,6 +17,9 @@ pub(crate) fn is_built(line: &Command) -> bool
             | Command::DropAll
             | Command::Dump
             | Command::New { .. }
+            | Command::Get { .. }
+            | Command::Objects { .. }
+            | Command::Related { .. }
             | Command::BeginNested(_)
             | Command::SetValue { .. }
             | Command::SetTerm { .. }
@@ -24,6 +27,7 @@ pub(crate) fn is_built(line: &Command) -> bool
             | Command::Remove { .. }
             | Command::Add(_)
             | Command::Delete(_)
+            | Command::Refresh(_)
             | Command::Show(_)
             | Command::ShowMember(_, _)
             | Command::State(_)
@@ -37,13 +41,16 @@ pub(crate) fn is_built(line: &Command) -> bool
     )
 }
 
-/// Whether a line only compiles; what objects compile to is yet to come.
+/// Whether a line only compiles.
 pub(crate) fn is_compiled(line: &Command) -> bool
     ensures { result ≡ is_compiled_line line.now }
 {
     matches!(
         line,
-        Command::CompileRows(_, _) | Command::CompileBulk(_, _) | Command::CompileTable(_, _)
+        Command::CompileRows(_, _)
+            | Command::CompileObjects(_, _)
+            | Command::CompileBulk(_, _)
+            | Command::CompileTable(_, _)
     )
 }
 

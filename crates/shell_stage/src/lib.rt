@@ -2,6 +2,7 @@
 //! the names that its answers bind.
 #![tactic(auto)]
 
+mod compiling;
 mod names;
 mod session;
 mod stage;

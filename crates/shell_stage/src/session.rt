@@ -64,7 +64,7 @@ fn resolve_line(
     requires declared { AreOfDeclared mapping.now names.now }
     ensures line { Gives (λ line. line) result
         (asking.asked dialect mapping.now names.now command.now) }
-    ensures cause { IfErr result IsOfCompiling }
+    ensures cause { IfErr result asking.IsOfAsking }
     ensures stands { (graph : Graph) → (drawn : ℕ) → AreThere graph drawn names.now
         → IfOk result (IsResolved mapping.now graph drawn) }
 {

@@ -1,9 +1,7 @@
 //! Declarations, and then the session.
 
-ghost use Rattle.std.specs.Prelude.{◌≡◌, ◌++◌, IfErr, IfOk, OnOk};
-ghost use Rattle.base_core.specs.Answers.{Gives};
+ghost use Rattle.std.specs.Prelude.{◌≡◌, ◌++◌, IfOk, OnOk};
 ghost use Rattle.class_types.specs.Shown.{rules_of};
-ghost use Rattle.statement_lines.specs.CompiledLines.{IsOfCompiling, compiled_line};
 ghost use Rattle.keeper_core.specs.Alone.{Tells};
 ghost use Rattle.sayable_lines.specs.Sayable.{IsSayable};
 ghost use Rattle.shell_replies.specs.Replies.{error_line};
@@ -13,6 +11,7 @@ ghost use Rattle.shell_stage.specs.Calls.{IsStageTurn};
 ghost use Rattle.shell_stage.specs.Stages.{IsAnswerAt, IsKept, mapping_of};
 ghost use Rattle.shell_stage.specs.Step as step;
 
+use crate::compiling::compiled;
 use base_core::{Refusal, RequestKind};
 use class_mapping::{Declarations, RefusedDeclarations};
 use class_types::Hooks;
@@ -21,7 +20,6 @@ use script_types::Command;
 use session_scopes::Session;
 use shell_parts::Block;
 use shell_replies::{PrintOptions, Reply, SessionNames, TableNames, put_notes, reply_of};
-use statement_lines::compile_line;
 use std::alloc::{AllocError, Global};
 use std::mem::{drop, replace};
 
@@ -127,7 +125,8 @@ impl Stage {
     /// What is answered to a line that compiles.
     ///
     /// # Errors
-    /// `NotConfigured` before there is a session; then as those of `compile_line`.
+    /// `NotConfigured` before there is a session; then those of its names and kinds, of a table that has no text, and of a limit
+    /// beside a joined collection.
     #[tactic(auto, using(keeper_core::proofs::AloneLemmas::standing, crate::proofs::Asking::compiling))]
     pub fn compile(&self, alloc: Global, command: &Command) -> Result<Reply, Refusal>
         requires sayable { IsSayable command.now }
@@ -135,7 +134,7 @@ impl Stage {
     {
         match self {
             Stage::Declaring(_) => { Err(Refusal::InvalidRequestError(RequestKind::NotConfigured)) }
-            Stage::Configured(session) => compiled(alloc, session, command),
+            Stage::Configured(session) => compiled(alloc, session.mapping(), command),
         }
     }
 
@@ -169,17 +168,6 @@ impl Stage {
             Stage::Configured(session) => session.clear_notes(),
         }
     }
-}
-
-/// What is answered to a line that compiles.
-fn compiled(alloc: Global, session: &Session, command: &Command) -> Result<Reply, Refusal>
-    requires sayable { IsSayable command.now }
-    ensures told { Gives (λ reply. reply) result
-        (compiled_line session.now.mapping.schema command.now) }
-    ensures cause { IfErr result IsOfCompiling }
-{
-    let text = compile_line(alloc, session.mapping().schema(), command)?;
-    Ok(Reply::of_text(text))
 }
 
 /// What is told of what a session noted in the line of a number goes behind a reply.

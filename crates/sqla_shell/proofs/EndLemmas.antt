@@ -25,9 +25,9 @@ use Rattle.sqla_shell.specs.declared.status.Status.TheVariants as status
 use Rattle.sqla_shell.specs.declared.stop.Stop.{Stop}
 use Rattle.sqla_shell.specs.declared.stop.Stop.TheVariants as stopped
 use Rattle.sqla_shell.specs.Causes.{CountsFaults, ShowsFaults, done_status, faults, stop_refusal}
-use Rattle.sqla_shell.specs.Outcome.{Rests, Concludes, DoesLines, DoesScript, Ends, HasNothingLeft, IsDoneOf, IsReadThrough, IsRolledBack, IsSettled, IsStopped, IsWhole, IsUndone, IsUsage, ending_of, first_log, log_with, moment_writing, told_writing}
+use Rattle.sqla_shell.specs.Outcome.{Rests, Concludes, DoesLines, DoesScript, Ends, HasNothingLeft, IsDoneOf, IsReadThrough, IsRolledBack, IsSettled, IsStopped, IsWhole, IsUndone, IsUsage, ending_of, log_with, moment_writing, told_writing}
 use Rattle.byte_streams.specs.Scripts.{lines_of}
-use Rattle.sqla_shell.specs.Reference.{end_unless_too_long, end_script, reference, script}
+use Rattle.sqla_shell.specs.Reference.{end_unless_too_long, end_script, reference_over, script}
 
 -- ---- the end of the lines, and then what the end asks for
 
@@ -129,25 +129,25 @@ log_undone log undone written (inr is) = subst (λ es. log_with (after_events lo
 abbrev mid_told : ShellState → Told Store → List ℕ → Told (Beside ShellState)
 mid_told own mid written = record { world = record { own = own; store = mid.world }; log = log_with mid.log written }
 
-undone_log : (before : List ℕ) (prefix : List Event) (mid now : Told Store) (written : List ℕ) (undone : List Event) → log_with mid.log written ≡ after_events (first_log before) prefix
-    → IsUndone mid.log undone → now.log ≡ after_events mid.log undone → log_with now.log written ≡ after_events (first_log before) (prefix ++ undone)
-undone_log before prefix mid now written undone here undoing is =
-    ap (λ l. log_with l written) is ∙ log_undone mid.log undone written undoing ∙ ap (λ l. after_events l undone) here ∙ sym (after_append (first_log before) prefix undone)
+undone_log : (first : Log) (prefix : List Event) (mid now : Told Store) (written : List ℕ) (undone : List Event) → log_with mid.log written ≡ after_events first prefix
+    → IsUndone mid.log undone → now.log ≡ after_events mid.log undone → log_with now.log written ≡ after_events first (prefix ++ undone)
+undone_log first prefix mid now written undone here undoing is =
+    ap (λ l. log_with l written) is ∙ log_undone mid.log undone written undoing ∙ ap (λ l. after_events l undone) here ∙ sym (after_append first prefix undone)
 
-stopped_at : (run : Run (Beside ShellState) Ending) (before : List ℕ) (mid now : Told Store) (own : ShellState) (written : List ℕ)
-    → IsCutOff run (first_log before) (mid_told own mid written) → IsRolledBack (Some mid) (Some now) → IsStopped run before (log_with now.log written)
-stopped_at run before mid now own written p back = record {
+stopped_at : (run : Run (Beside ShellState) Ending) (first : Log) (mid now : Told Store) (own : ShellState) (written : List ℕ)
+    → IsCutOff run first (mid_told own mid written) → IsRolledBack (Some mid) (Some now) → IsStopped run first (log_with now.log written)
+stopped_at run first mid now own written p back = record {
   prefix = p.prefix;
   rest = p.rest;
   undone = back.0;
   events = p.events;
   undoing = subst (λ l. IsUndone l back.0) p.log back.1;
-  log = undone_log before p.prefix mid now written back.0 p.log back.1 back.2;
+  log = undone_log first p.prefix mid now written back.0 p.log back.1 back.2;
 }
 
-whole_by : (run : Run (Beside ShellState) Ending) (before : List ℕ) (now : Log) (b : Bool) → IsWhole run Finished before now → run.after.own.desk.refused ≡ b → Ends run before (done_status b) now
-whole_by run before now true whole is = (whole, is)
-whole_by run before now false whole is = (whole, is)
+whole_by : (run : Run (Beside ShellState) Ending) (first now : Log) (b : Bool) → IsWhole run Finished first now → run.after.own.desk.refused ≡ b → Ends run first (done_status b) now
+whole_by run first now true whole is = (whole, is)
+whole_by run first now false whole is = (whole, is)
 
 some_of : Told Store → Option (Told Store) → Told Store
 some_of other None = other
@@ -157,52 +157,58 @@ same_told : (mid now : Told Store) → Some now ≡ Some mid → now ≡ mid
 unfolding some_of
 same_told mid now is = ap (some_of mid) is
 
-ended : (run : Run (Beside ShellState) Ending) (before : List ℕ) (done : Result Ending Stop) (end : Status) (mid now : Told Store) (own : ShellState) (written : List ℕ)
-    → Outcome (λ e. e) run (first_log before) (as_refusal stop_refusal done) (mid_told own mid written) → Concludes done own.desk.refused (Some mid) end (Some now) → Ends run before end (log_with now.log written)
-ended run before (Ok Finished) end mid now own written p c =
-    subst (λ s. Ends run before s (log_with now.log written)) (sym c.0)
-    (whole_by run before (log_with now.log written) own.desk.refused (record { answer = p.answer; log = ap (λ t. log_with t.log written) (same_told mid now c.1) ∙ p.log }) (sym (ap (λ w. w.own.desk.refused) p.world)))
-ended run before (Ok TooLong) end mid now own written p c =
-    subst (λ s. Ends run before s (log_with now.log written)) (sym c.0) (record {
+ended : (run : Run (Beside ShellState) Ending) (first : Log) (done : Result Ending Stop) (end : Status) (mid now : Told Store) (own : ShellState) (written : List ℕ)
+    → Outcome (λ e. e) run first (as_refusal stop_refusal done) (mid_told own mid written) → Concludes done own.desk.refused (Some mid) end (Some now) → Ends run first end (log_with now.log written)
+ended run first (Ok Finished) end mid now own written p c =
+    subst (λ s. Ends run first s (log_with now.log written)) (sym c.0)
+    (whole_by run first (log_with now.log written) own.desk.refused (record { answer = p.answer; log = ap (λ t. log_with t.log written) (same_told mid now c.1) ∙ p.log }) (sym (ap (λ w. w.own.desk.refused) p.world)))
+ended run first (Ok TooLong) end mid now own written p c =
+    subst (λ s. Ends run first s (log_with now.log written)) (sym c.0) (record {
       undone = c.1.0;
       answer = p.answer;
       undoing = subst (λ l. IsUndone l c.1.0) p.log c.1.1;
-      log = undone_log before run.events mid now written c.1.0 p.log c.1.1 c.1.2;
+      log = undone_log first run.events mid now written c.1.0 p.log c.1.1 c.1.2;
     })
-ended run before (Err stopped.Read) end mid now own written p c = subst (λ s. Ends run before s (log_with now.log written)) (sym c.0) (stopped_at run before mid now own written p c.1)
-ended run before (Err stopped.Write) end mid now own written p c = subst (λ s. Ends run before s (log_with now.log written)) (sym c.0) (stopped_at run before mid now own written p c.1)
-ended run before (Err stopped.Keeper) end mid now own written p c = subst (λ s. Ends run before s (log_with now.log written)) (sym c.0) (stopped_at run before mid now own written p c.1)
-ended run before (Err stopped.Memory) end mid now own written p c = subst (λ s. Ends run before s (log_with now.log written)) (sym c.0) (stopped_at run before mid now own written p c.1)
+ended run first (Err stopped.Read) end mid now own written p c = subst (λ s. Ends run first s (log_with now.log written)) (sym c.0) (stopped_at run first mid now own written p c.1)
+ended run first (Err stopped.Write) end mid now own written p c = subst (λ s. Ends run first s (log_with now.log written)) (sym c.0) (stopped_at run first mid now own written p c.1)
+ended run first (Err stopped.Keeper) end mid now own written p c = subst (λ s. Ends run first s (log_with now.log written)) (sym c.0) (stopped_at run first mid now own written p c.1)
+ended run first (Err stopped.Memory) end mid now own written p c = subst (λ s. Ends run first s (log_with now.log written)) (sym c.0) (stopped_at run first mid now own written p c.1)
 
 goes_on : (done : Result Ending Stop) (refused : Bool) (mid : Told Store) (end : Status) → Concludes done refused (Some mid) end None → ⊥
 goes_on (Ok Finished) refused mid end c = cc
 goes_on (Ok TooLong) refused mid end c = c.1
 goes_on (Err stop) refused mid end c = c.1
 
-is_done_by : (options : PrintOptions) (rules : Rules) (bytes : List ℕ) (before after : Option (List ℕ)) (first mid last : Option (Told Store)) (own : ShellState) (done : Result Ending Stop) (end : Status)
-    → AsTold (λ e. e) (script rules bytes) (told_writing (new_shell options) first before) (as_refusal stop_refusal done) (told_writing own mid after)
-    → Concludes done own.desk.refused mid end last → IsSettledTold last → IsDoneOf options rules (Some bytes) before first end after last
-is_done_by options rules bytes None after first mid last own done end p c settled = tt
-is_done_by options rules bytes (Some b) after None mid last own done end p c settled = tt
-is_done_by options rules bytes (Some b) None (Some t) None last own done end p c settled = absurd p
-is_done_by options rules bytes (Some b) None (Some t) (Some m) last own done end p c settled = absurd p
-is_done_by options rules bytes (Some b) (Some a) (Some t) None last own done end p c settled = absurd p
-is_done_by options rules bytes (Some b) (Some a) (Some t) (Some m) None own done end p c settled = absurd (goes_on done own.desk.refused m end c)
-is_done_by options rules bytes (Some b) (Some a) (Some t) (Some m) (Some n) own done end p c settled = λ is. (
-  ended (reference options rules bytes) b done end m n own a
-      (subst (λ first. Outcome (λ e. e) (script rules bytes (record { own = new_shell options; store = first.world })) (log_with first.log b) (as_refusal stop_refusal done) (mid_told own m a)) is p) c,
-  settled,
-)
+-- a store without a scope is its tables
+bare_store : (store : Store) → store.scopes ≡ [] → store ≡ record { tables = store.tables; scopes = [] }
+bare_store store is = ap (λ (scopes : List Tables). record { tables = store.tables; scopes = scopes }) is
 
--- a script was done over a keeper that had nothing, and concluded
+is_done_by : (options : PrintOptions) (rules : Rules) (bytes : List ℕ) (before after : Option (List ℕ)) (first mid last : Option (Told Store)) (own : ShellState) (done : Result Ending Stop) (end : Status)
+    → IsSettledTold first → AsTold (λ e. e) (script rules bytes) (told_writing (new_shell options) first before) (as_refusal stop_refusal done) (told_writing own mid after)
+    → Concludes done own.desk.refused mid end last → IsSettledTold last → IsDoneOf options rules (Some bytes) before first end after last
+is_done_by options rules bytes None after first mid last own done end bare p c settled = tt
+is_done_by options rules bytes (Some b) after None mid last own done end bare p c settled = tt
+is_done_by options rules bytes (Some b) None (Some t) None last own done end bare p c settled = absurd p
+is_done_by options rules bytes (Some b) None (Some t) (Some m) last own done end bare p c settled = absurd p
+is_done_by options rules bytes (Some b) (Some a) (Some t) None last own done end bare p c settled = absurd p
+is_done_by options rules bytes (Some b) (Some a) (Some t) (Some m) None own done end bare p c settled = absurd (goes_on done own.desk.refused m end c)
+is_done_by options rules bytes (Some b) (Some a) (Some t) (Some m) (Some n) own done end bare p c settled = record {
+  began = bare;
+  run = ended (reference_over options rules t.world.tables bytes) (log_with t.log b) done end m n own a
+      (subst (λ store. Outcome (λ e. e) (script rules bytes (record { own = new_shell options; store = store })) (log_with t.log b) (as_refusal stop_refusal done) (mid_told own m a)) (bare_store t.world bare.0) p) c;
+  settled = settled;
+}
+
+-- a script was done over a keeper that had no scope open, and concluded
 pub is_done : {K O : Type 0} (moment : K → Moment Store) (written : O → Option (List ℕ)) (options : PrintOptions) (rules : Rules) (left : Option (List ℕ)) (shell own : ShellState) (first mid last : K) (sink after : O) (done : Result Ending Stop) (end : Status)
     → shell ≡ new_shell options → DoesScript rules left (moment_writing moment written) (shell, first, sink) (as_refusal stop_refusal done) (own, mid, after)
-    → Concludes done own.desk.refused (moment mid).told end (moment last).told → IsCoherent (moment last) → (moment last).depth ≡ 0
+    → IsCoherent (moment first) → (moment first).depth ≡ 0 → Concludes done own.desk.refused (moment mid).told end (moment last).told → IsCoherent (moment last) → (moment last).depth ≡ 0
     → IsDoneOf options rules left (written sink) (moment first).told end (written after) (moment last).told
 unfolding moment_writing
-is_done moment written options rules None shell own first mid last sink after done end is p c coherent depth = tt
-is_done moment written options rules (Some bytes) shell own first mid last sink after done end is p c coherent depth =
+is_done moment written options rules None shell own first mid last sink after done end is p opened bare c coherent depth = tt
+is_done moment written options rules (Some bytes) shell own first mid last sink after done end is p opened bare c coherent depth =
     is_done_by options rules bytes (written sink) (written after) (moment first).told (moment mid).told (moment last).told own done end
+    (settled_told (moment first).tells (moment first).depth (moment first).told opened bare)
     (subst (λ s. AsTold (λ e. e) (script rules bytes) (told_writing s (moment first).told (written sink)) (as_refusal stop_refusal done) (told_writing own (moment mid).told (written after))) is (parts p).told)
     c (settled_told (moment last).tells (moment last).depth (moment last).told coherent depth)
 

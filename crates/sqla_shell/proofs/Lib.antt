@@ -1,4 +1,5 @@
 pub mod EndLemmas
+pub mod TakenLemmas
 pub mod LinesLemmas
 pub mod WritingLemmas
 pub mod KeepsLemmas

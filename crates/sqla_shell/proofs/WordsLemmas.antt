@@ -4,7 +4,6 @@ use Rattle.class_types.specs.Rules.{Rules}
 use Rattle.program_words.specs.declared.options.Options.{Options}
 use Rattle.keeper_core.specs.Moment.{Moment}
 use Rattle.keeper_core.specs.Store.{Store}
-use Rattle.keeper_core.specs.declared.target.Target.TheVariants as targets
 use Rattle.sqla_shell.specs.Outcome.{IsReference}
 use Rattle.sqla_shell.specs.Seen.{Seen}
 use Rattle.sqla_shell.specs.Words.{IsGiven, IsRun, print_options}
@@ -14,11 +13,9 @@ one_asked : (told : Option Options) (one other : Options) → told ≡ Some one 
 one_asked told one other is also = cc
 
 -- the run is that of what the words ask for
-pub run_as_asked : (rules : Rules) (told : Option Options) (one : Options) (old : Seen) (end : Status) (new : Seen) → told ≡ Some one → (one.target ≡ targets.Memory → IsReference (print_options one) rules old end new)
-    → (options : Options) → told ≡ Some options → options.target ≡ targets.Memory → IsRun options rules old end new
-run_as_asked rules told one old end new is run options also memory =
-    let same = one_asked told one options is also in
-    inr (subst (λ (o : Options). IsReference (print_options o) rules old end new) same (run (ap (λ (o : Options). o.target) same ∙ memory)))
+pub run_as_asked : (rules : Rules) (told : Option Options) (one : Options) (old : Seen) (end : Status) (new : Seen) → told ≡ Some one → IsReference (print_options one) rules one.target old end new
+    → (options : Options) → told ≡ Some options → IsRun options rules old end new
+run_as_asked rules told one old end new is run options also = inr (subst (λ (o : Options). IsReference (print_options o) rules o.target old end new) (one_asked told one options is also) run)
 
 -- the keeper was given the target that they name
 pub given_as_asked : (told : Option Options) (one : Options) (old : Moment Store) (end : Status) (new : Moment Store) → told ≡ Some one → new.target ≡ Some one.target

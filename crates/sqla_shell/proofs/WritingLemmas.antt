@@ -1,5 +1,5 @@
 -- Calls of a shell and writes to a sink as runs of the world whose log has both statements and bytes.
-use Rattle.std.proofs.Common.{◌≡◌, ℕ, ◌≤◌, Bool, true, false, List, [], ◌∷◌, ◌++◌, map, length, ◌+◌, ◌-◌, take, drop, Option, None, Some, Result, Ok, Err, IsErr, IsErrAnd, MatchBool, refl, sym, ap, ◌∙◌, subst, append_assoc, append-nil, arith}
+use Rattle.std.proofs.Common.{◌≡◌, ℕ, ◌<◌, ◌≤◌, Bool, true, false, List, [], ◌∷◌, ◌++◌, map, length, ◌+◌, ◌-◌, take, drop, Option, None, Some, Result, Ok, Err, IsErr, IsErrAnd, MatchBool, refl, sym, ap, ◌∙◌, subst, append_assoc, append-nil, arith}
 use Rattle.std.proofs.Math.Seq.{take-add}
 use Rattle.std.proofs.lemmas.List.{length-drop, map-append, take-append-drop, take_all}
 use Rattle.std.specs.Io.KnownBytes.{Appends, Keeps}
@@ -122,7 +122,7 @@ told_stopped own (Some t) (Some bytes) (Some more) piece stop p = record {
   prefix = map Writes (take p.0 piece);
   rest = map Writes (drop p.0 piece);
   events = split_writes p.0 piece;
-  log = ap (log_with t.log) p.1 ∙ sym (after_bytes t.log bytes (take p.0 piece));
+  log = ap (log_with t.log) p.2 ∙ sym (after_bytes t.log bytes (take p.0 piece));
 }
 
 -- all of a piece went out
@@ -134,7 +134,7 @@ wrote moment written own keeper old new piece p = Ran (record {
   keeps = keeps_answer;
 })
 
--- a prefix of a piece went out
+-- less than a piece went out
 wrote_prefix : {S K O : Type 0} (moment : K → Moment Store) (written : O → Option (List ℕ)) (own : S) (keeper : K) (old new : O) (piece : List ℕ) (stop : Stop)
     → HasWritten (written old) piece (Err stop) (written new) → Runs (moment_writing moment written) (λ u. u) (writes piece) (own, keeper, old) (Err Memory) (own, keeper, new)
 unfolding moment_writing
@@ -206,13 +206,13 @@ all_written None now piece count p whole = tt
 all_written (Some b) None piece count p whole = absurd p
 all_written (Some b) (Some x) piece count p whole = p ∙ ap (λ l. b ++ l) (take_all count piece whole)
 
--- a prefix of the piece went out
-pub prefix_written : (before mid now : Option (List ℕ)) (piece : List ℕ) (count : ℕ) (r : Result (Unit {0}) Stop) → IsErr r → Appends before mid (take count piece) → Keeps mid now → HasWritten before piece r now
-prefix_written before mid now piece count (Ok u) is p q = cc
-prefix_written None mid now piece count (Err stop) is p q = tt
-prefix_written (Some b) None now piece count (Err stop) is p q = absurd p
-prefix_written (Some b) (Some m) None piece count (Err stop) is p q = absurd q
-prefix_written (Some b) (Some m) (Some x) piece count (Err stop) is p q = (count, q ∙ p)
+-- less than the piece went out
+pub prefix_written : (before mid now : Option (List ℕ)) (piece : List ℕ) (count : ℕ) (r : Result (Unit {0}) Stop) → count < length piece → IsErr r → Appends before mid (take count piece) → Keeps mid now → HasWritten before piece r now
+prefix_written before mid now piece count (Ok u) less is p q = cc
+prefix_written None mid now piece count (Err stop) less is p q = tt
+prefix_written (Some b) None now piece count (Err stop) less is p q = absurd p
+prefix_written (Some b) (Some m) None piece count (Err stop) less is p q = absurd q
+prefix_written (Some b) (Some m) (Some x) piece count (Err stop) less is p q = (count, less, q ∙ p)
 
 -- what a write of the rest of a piece took
 pub part_of : (piece : List ℕ) (count n : ℕ) → take n (take (length piece - count) (drop count piece)) ≡ take n (drop count piece)

@@ -1,12 +1,14 @@
 -- How a run stands to the reference: what went out, the statements that were sent, the status and the tables.
-use Rattle.std.specs.Prelude.{◌≡◌, ◌≤◌, ℕ, Bool, true, false, List, [], ◌∷◌, ◌++◌, take, codes, Option, None, Some, Result, Ok, Err, IfOk, ◌⊎◌}
+use Rattle.std.specs.Prelude.{◌≡◌, ◌<◌, ◌≤◌, ℕ, Bool, true, false, List, [], ◌∷◌, ◌++◌, length, take, codes, Option, None, Some, Result, Ok, Err, IfOk, ◌⊎◌}
 use Rattle.base_core.specs.declared.refusal.Refusal.{Refusal}
 use Rattle.class_types.specs.Rules.{Rules}
 use Rattle.keeper_core.specs.declared.sent.Sent.TheVariants.{Rollback}
 use Rattle.keeper_core.specs.Store.{Store}
 use Rattle.keeper_core.specs.Programs.{Event, Log, Run, Sends, after_events, each}
 use Rattle.keeper_core.specs.Moment.{Moment, Told, Runs}
-use Rattle.keeper_core.specs.Keeping.{new_store}
+use Rattle.keeper_core.specs.Keeping.{IsOpened}
+use Rattle.keeper_core.specs.declared.target.Target.{Target}
+use Rattle.keeper_core.specs.declared.target.Target.TheVariants as targets
 use Rattle.keeper_core.specs.Beside.{Beside}
 use Rattle.shell_replies.specs.declared.notes.PrintOptions.{PrintOptions}
 use Rattle.shell_steps.specs.ShellState.{ShellState}
@@ -18,7 +20,7 @@ use Rattle.sqla_shell.specs.declared.status.Status.TheVariants as status
 use Rattle.sqla_shell.specs.Seen.{KeepsKeeper, Seen}
 use Rattle.sqla_shell.specs.Causes.{done_status, stop_status}
 use Rattle.byte_streams.specs.Scripts.{lines_of}
-use Rattle.sqla_shell.specs.Reference.{do_and_reply, reference, script}
+use Rattle.sqla_shell.specs.Reference.{do_and_reply, reference_over, script}
 
 -- ---- what is seen of a shell, a keeper and a sink
 
@@ -46,12 +48,12 @@ moment_writing moment written s = record {
 
 -- ---- the parts of a run
 
--- all of a piece went out, or where that stopped a prefix of it
+-- all of a piece went out, or where that stopped less of it
 abbrev pub HasWritten : Option (List ℕ) → List ℕ → Result (Unit {0}) Stop → Option (List ℕ) → Type 0
 HasWritten None piece result now = Unit {0}
 HasWritten (Some before) piece result None = ⊥
 HasWritten (Some before) piece (Ok u) (Some now) = now ≡ before ++ piece
-HasWritten (Some before) piece (Err stop) (Some now) = (count : ℕ) × (now ≡ before ++ take count piece)
+HasWritten (Some before) piece (Err stop) (Some now) = (count : ℕ) × (count < length piece) × (now ≡ before ++ take count piece)
 
 -- nothing is left with a source that told what it had
 abbrev pub HasNothingLeft : Option (List ℕ) → Option (List ℕ) → Type 0
@@ -76,67 +78,81 @@ DoesScript rules (Some bytes) tell old result new = Runs tell (λ e. e) (script 
 
 -- ---- the end of a run
 
--- nothing was sent and the bytes before are all that went out
-abbrev pub first_log : List ℕ → Log
-first_log written = record { sent = []; committed = []; written = written }
-
 -- a transaction that was in progress where the run stopped is rolled back
 abbrev pub IsUndone : Log → List Event → Type 0
 IsUndone log events = (events ≡ []) ⊎ (events ≡ Sends Rollback log.committed ∷ [])
 
 -- the reference was done to its end, with this ending
-pub record IsWhole (run : Run (Beside ShellState) Ending) (ending : Ending) (before : List ℕ) (now : Log) : Type 0 where
+pub record IsWhole (run : Run (Beside ShellState) Ending) (ending : Ending) (first now : Log) : Type 0 where
   pub answer : run.answer ≡ Ok ending
-  pub log : now ≡ after_events (first_log before) run.events
+  pub log : now ≡ after_events first run.events
 
 -- the reference was stopped: what the outside has seen is a prefix of its events, with the transaction rolled back
-pub record IsStopped (run : Run (Beside ShellState) Ending) (before : List ℕ) (now : Log) : Type 0 where
+pub record IsStopped (run : Run (Beside ShellState) Ending) (first now : Log) : Type 0 where
   pub prefix : List Event
   pub rest : List Event
   pub undone : List Event
   pub events : prefix ++ rest ≡ run.events
-  pub undoing : IsUndone (after_events (first_log before) prefix) undone
-  pub log : now ≡ after_events (first_log before) (prefix ++ undone)
+  pub undoing : IsUndone (after_events first prefix) undone
+  pub log : now ≡ after_events first (prefix ++ undone)
 
 -- a limit was passed: the lines before it were done, and the transaction rolled back
-pub record IsCutShort (run : Run (Beside ShellState) Ending) (before : List ℕ) (now : Log) : Type 0 where
+pub record IsCutShort (run : Run (Beside ShellState) Ending) (first now : Log) : Type 0 where
   pub undone : List Event
   pub answer : run.answer ≡ Ok TooLong
-  pub undoing : IsUndone (after_events (first_log before) run.events) undone
-  pub log : now ≡ after_events (first_log before) (run.events ++ undone)
+  pub undoing : IsUndone (after_events first run.events) undone
+  pub log : now ≡ after_events first (run.events ++ undone)
 
--- what the outside has seen at the end of a run with this status
-abbrev pub Ends : Run (Beside ShellState) Ending → List ℕ → Status → Log → Type 0
-Ends run before status.Done now = IsWhole run Finished before now × (run.after.own.desk.refused ≡ false)
-Ends run before status.Refused now = IsWhole run Finished before now × (run.after.own.desk.refused ≡ true)
-Ends run before status.Usage now = ⊥
-Ends run before status.ReadFault now = IsStopped run before now
-Ends run before status.WriteFault now = IsStopped run before now
-Ends run before status.KeeperFault now = IsStopped run before now
-Ends run before status.Memory now = IsStopped run before now
-Ends run before status.TooLong now = IsCutShort run before now
+-- what the outside has seen at the end of a run with this status, where it had seen the first log before
+abbrev pub Ends : Run (Beside ShellState) Ending → Log → Status → Log → Type 0
+Ends run first status.Done now = IsWhole run Finished first now × (run.after.own.desk.refused ≡ false)
+Ends run first status.Refused now = IsWhole run Finished first now × (run.after.own.desk.refused ≡ true)
+Ends run first status.Usage now = ⊥
+Ends run first status.ReadFault now = IsStopped run first now
+Ends run first status.WriteFault now = IsStopped run first now
+Ends run first status.KeeperFault now = IsStopped run first now
+Ends run first status.Memory now = IsStopped run first now
+Ends run first status.TooLong now = IsCutShort run first now
 
 -- no scope is open, and the tables are those that were committed last
 abbrev pub IsSettled : Told Store → Type 0
 IsSettled told = (told.world.scopes ≡ []) × (told.world.tables ≡ told.log.committed)
 
--- a keeper that took no target is left as it was, and nothing goes out
-abbrev pub IsUntouched : Status → List ℕ → Option (Told Store) → List ℕ → Option (Told Store) → Type 0
-IsUntouched end before told written now = (written ≡ before) × (now ≡ told) × ((end ≡ status.KeeperFault) ⊎ (end ≡ status.Memory))
+-- The run of a script is the reference's over the tables that a keeper told at first; bytes written before are before, those at the end
+-- are written. No scope is open at first, nor at the end.
+pub record EndsOver (options : PrintOptions) (rules : Rules) (bytes : List ℕ) (first : Told Store) (before : List ℕ) (end : Status) (now : Told Store) (written : List ℕ) : Type 0 where
+  pub began : IsSettled first
+  pub run : Ends (reference_over options rules first.world.tables bytes) (log_with first.log before) end (log_with now.log written)
+  pub settled : IsSettled now
 
-abbrev pub IsReferenceOf : PrintOptions → Rules → Option (List ℕ) → Option (List ℕ) → Option (Told Store) → Status → Bool → Option (List ℕ) → Option (Told Store) → Type 0
-IsReferenceOf options rules None before told end attached written now = Unit {0}
-IsReferenceOf options rules (Some bytes) None told end attached written now = Unit {0}
-IsReferenceOf options rules (Some bytes) (Some before) told end attached written None = told ≡ None
-IsReferenceOf options rules (Some bytes) (Some before) told end attached None (Some now) = ⊥
-IsReferenceOf options rules (Some bytes) (Some before) told end false (Some written) (Some now) = IsUntouched end before told written (Some now)
-IsReferenceOf options rules (Some bytes) (Some before) told end true (Some written) (Some now) = Ends (reference options rules bytes) before end (log_with now.log written) × IsSettled now
+-- a keeper in memory that told goes on telling
+abbrev pub IsSilent : Target → Option (Told Store) → Type 0
+IsSilent targets.Memory told = told ≡ None
+IsSilent (targets.File name) told = Unit {0}
+
+-- the run over a keeper that took its target: there are tables with which it began, none in memory
+abbrev pub IsTakenRun : PrintOptions → Rules → Target → Option (List ℕ) → Option (List ℕ) → Option (Told Store) → Status → Option (List ℕ) → Option (Told Store) → Type 0
+IsTakenRun options rules target None before told end written now = Unit {0}
+IsTakenRun options rules target (Some bytes) None told end written now = Unit {0}
+IsTakenRun options rules target (Some bytes) (Some before) told end written None = IsSilent target told
+IsTakenRun options rules target (Some bytes) (Some before) told end None (Some now) = ⊥
+IsTakenRun options rules target (Some bytes) (Some before) told end (Some written) (Some now) =
+    (first : Told Store) × IsOpened target first × EndsOver options rules bytes first before end now written
+
+-- a keeper that did not take its target: nothing is read, nothing goes out, and what it tells is as it was
+abbrev pub IsUntaken : Seen → Status → Seen → Type 0
+IsUntaken old end new =
+    (new.left ≡ old.left) × (new.written ≡ old.written) × (new.keeper.told ≡ old.keeper.told) × ((end ≡ status.KeeperFault) ⊎ (end ≡ status.Memory))
+
+abbrev pub IsReferenceWhere : Bool → PrintOptions → Rules → Target → Seen → Status → Seen → Type 0
+IsReferenceWhere true options rules target old end new = IsTakenRun options rules target old.left old.written old.keeper.told end new.written new.keeper.told
+IsReferenceWhere false options rules target old end new = IsUntaken old end new
 
 -- The run of a script is the reference's: where the source tells the script's bytes, the sink what was written and the keeper its
 -- tables once it has its target, what went out, the statements sent, the status and the tables at the end are those of the
--- reference. A keeper that told before goes on telling.
-abbrev pub IsReference : PrintOptions → Rules → Seen → Status → Seen → Type 0
-IsReference options rules old end new = IsReferenceOf options rules old.left old.written old.keeper.told end new.keeper.attached new.written new.keeper.told
+-- reference, from the tables that there were. A keeper in memory that told before goes on telling.
+abbrev pub IsReference : PrintOptions → Rules → Target → Seen → Status → Seen → Type 0
+IsReference options rules target old end new = IsReferenceWhere new.keeper.attached options rules target old end new
 
 -- nothing is left of a script that was done to its end
 abbrev pub IsReadThrough : Status → Option (List ℕ) → Option (List ℕ) → Type 0
@@ -168,12 +184,11 @@ abbrev pub IsDoneOf : PrintOptions → Rules → Option (List ℕ) → Option (L
 IsDoneOf options rules None before told end written now = Unit {0}
 IsDoneOf options rules (Some bytes) None told end written now = Unit {0}
 IsDoneOf options rules (Some bytes) (Some before) None end written now = Unit {0}
-IsDoneOf options rules (Some bytes) (Some before) (Some told) end None now = told ≡ new_store → ⊥
-IsDoneOf options rules (Some bytes) (Some before) (Some told) end (Some written) None = told ≡ new_store → ⊥
-IsDoneOf options rules (Some bytes) (Some before) (Some told) end (Some written) (Some now) =
-    told ≡ new_store → Ends (reference options rules bytes) before end (log_with now.log written) × IsSettled now
+IsDoneOf options rules (Some bytes) (Some before) (Some told) end None now = ⊥
+IsDoneOf options rules (Some bytes) (Some before) (Some told) end (Some written) None = ⊥
+IsDoneOf options rules (Some bytes) (Some before) (Some told) end (Some written) (Some now) = EndsOver options rules bytes told before end now written
 
--- the run of a script over a keeper that has nothing yet
+-- the run of a script over a keeper that has no scope open
 abbrev pub IsDone : PrintOptions → Rules → Seen → Status → Seen → Type 0
 IsDone options rules old end new = IsDoneOf options rules old.left old.written old.keeper.told end new.written new.keeper.told
 
@@ -181,10 +196,10 @@ IsDone options rules old end new = IsDoneOf options rules old.left old.written o
 abbrev pub usage_line : List ℕ
 usage_line = codes "usage: sqla [--dialect D] [--echo] [--store FILE] [--generate N]" ++ 10 ∷ []
 
--- the usage line went out, or a prefix of it where the sink failed or memory ran out
+-- the usage line went out, or less of it where the sink failed or memory ran out
 abbrev pub IsUsage : Option (List ℕ) → Status → Option (List ℕ) → Type 0
 IsUsage None end now = (end ≡ status.Usage) ⊎ ((end ≡ status.WriteFault) ⊎ (end ≡ status.Memory))
 IsUsage (Some before) status.Usage now = now ≡ Some (before ++ usage_line)
-IsUsage (Some before) status.WriteFault (Some now) = (count : ℕ) × (now ≡ before ++ take count usage_line)
-IsUsage (Some before) status.Memory (Some now) = (count : ℕ) × (now ≡ before ++ take count usage_line)
+IsUsage (Some before) status.WriteFault (Some now) = (count : ℕ) × (count < length usage_line) × (now ≡ before ++ take count usage_line)
+IsUsage (Some before) status.Memory (Some now) = (count : ℕ) × (count < length usage_line) × (now ≡ before ++ take count usage_line)
 IsUsage (Some before) end now = ⊥

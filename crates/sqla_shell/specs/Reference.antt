@@ -3,6 +3,7 @@ use Rattle.std.specs.Prelude.{ℕ, Bool, true, false, List, [], map, Ok}
 use Rattle.class_types.specs.Rules.{Rules}
 use Rattle.keeper_core.specs.Programs.{Run, Writes, ◌>>=◌, give, each}
 use Rattle.keeper_core.specs.Beside.{Beside}
+use Rattle.schema_core.specs.Tables.{Tables}
 use Rattle.byte_streams.specs.Scripts.{lines_of}
 use Rattle.shell_replies.specs.declared.notes.PrintOptions.{PrintOptions}
 use Rattle.shell_steps.specs.ShellState.{ShellState, new_shell}
@@ -36,10 +37,18 @@ end_unless_too_long false = end_script
 unfoldable pub script : Rules → List ℕ → Beside ShellState → Run (Beside ShellState) Ending
 script rules bytes = each (do_and_reply rules) tt (lines_of bytes).lines >>= λ u. end_unless_too_long (lines_of bytes).too_long
 
+-- nothing is declared, over tables that are there
+abbrev pub start_over : PrintOptions → Tables → Beside ShellState
+start_over options tables = record { own = new_shell options; store = record { tables = tables; scopes = [] } }
+
 -- nothing is declared, and there is no table
 abbrev pub start : PrintOptions → Beside ShellState
-start options = record { own = new_shell options; store = record { tables = []; scopes = [] } }
+start options = start_over options []
 
--- what a script does from the start on, where texts are printed so and validators have these rules
+-- what a script does over tables that are there, where texts are printed so and validators have these rules
+abbrev pub reference_over : PrintOptions → Rules → Tables → List ℕ → Run (Beside ShellState) Ending
+reference_over options rules tables bytes = script rules bytes (start_over options tables)
+
+-- what a script does where there is no table
 abbrev pub reference : PrintOptions → Rules → List ℕ → Run (Beside ShellState) Ending
-reference options rules bytes = script rules bytes (start options)
+reference options rules bytes = reference_over options rules [] bytes

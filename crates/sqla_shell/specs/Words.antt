@@ -19,7 +19,7 @@ print_options options = record { dialect = options.dialect; echo = options.echo 
 
 -- the run is the reference's, or memory ran out before anything happened
 abbrev pub IsRun : Options → Rules → Seen → Status → Seen → Type 0
-IsRun options rules old end new = ((end ≡ status.Memory) × (new ≡ old)) ⊎ IsReference (print_options options) rules old end new
+IsRun options rules old end new = ((end ≡ status.Memory) × (new ≡ old)) ⊎ IsReference (print_options options) rules options.target old end new
 
 -- the keeper was given the target, or memory ran out before that
 abbrev pub IsGiven : Moment Store → Target → Status → Moment Store → Type 0

@@ -2,9 +2,7 @@
 
 ghost use Rattle.std.specs.Prelude.{◌≡◌, ◌≢◌, ◌≤◌, ℕ, Bool, map, None, Some, true, Ok, Err, IfOk, string_bytes};
 ghost use Rattle.class_types.specs.Shown.{rules_of};
-ghost use Rattle.keeper_core.specs.Keeping.{new_store};
 ghost use Rattle.program_words.specs.Asked.{options_asked};
-ghost use Rattle.keeper_core.specs.declared.target.Target.TheVariants as targets;
 ghost use Rattle.sqla_shell.specs.Causes.{CountsFaults, ShowsFaults, done_status, faults, stop_status};
 ghost use Rattle.sqla_shell.specs.Outcome.{Concludes, IsDone, IsReadThrough, IsReference, IsRolledBack, IsUsage, Rests};
 ghost use Rattle.sqla_shell.specs.Seen.{KeepsKeeper, moment_seen};
@@ -14,10 +12,9 @@ use crate::ending::Ending;
 use crate::script::{do_script, write_all};
 use crate::status::Status;
 use crate::stop::Stop;
-use base_core::Name;
 use byte_streams::{Sink, Source};
 use class_types::Hooks;
-use keeper_core::{Keeper, KeeperStop, Target};
+use keeper_core::{Keeper, KeeperStop};
 use program_words::{Options, WordsRefusal, read_words};
 use shell_replies::PrintOptions;
 use shell_steps::Shell;
@@ -34,8 +31,9 @@ const USAGE: &[u8] = b"usage: sqla [--dialect D] [--echo] [--store FILE] [--gene
 /// read, and what a line answers goes out after it has ended. At the script's end the session is closed; where the run ends before
 /// it, the keeper's transaction is rolled back.
 ///
-/// Where the source, the sink and the keeper tell what they have, what is written, the statements that are sent, the status
-/// and the tables at the end are those of the reference session (`specs/Reference.antt`).
+/// Where the source, the sink and the keeper tell what they have, the keeper once it has its target, what is written, the statements
+/// that are sent, the status and the tables at the end are those of the reference session (`specs/Reference.antt`), from tables with
+/// which the keeper began, where no statement had been sent: none in memory, and some that ascend in a file.
 pub fn run<S: Source, O: Sink, K: Keeper>(
     alloc: Global,
     words: &Vec<String>,
@@ -52,10 +50,13 @@ pub fn run<S: Source, O: Sink, K: Keeper>(
         → source.new ≡ source.old }
     ensures unused { options_asked (map string_bytes words.now.items) ≡ None
         → keeper.new ≡ keeper.old }
-    // With words that name memory the run is the reference's.
+    // Where the keeper was given no target, it is as before, and nothing was read.
+    ensures ungiven { (K.moment keeper.new).target ≡ None → keeper.new ≡ keeper.old }
+    ensures unasked { (K.moment keeper.new).target ≡ None → source.new ≡ source.old }
+    // With words of the program the run is the reference's, over tables with which its keeper began once it had its target.
     ensures reference { (options : Options) →
         options_asked (map string_bytes words.now.items) ≡ Some options
-        → options.target ≡ targets.Memory → IsRun options
+        → IsRun options
         (rules_of hooks.now)
         (moment_seen (S.left source.old) (S.faults source.old) (O.written sink.old) (O.faults sink.old)
         (K.moment keeper.old))
@@ -99,8 +100,7 @@ fn run_with<S: Source, O: Sink, K: Keeper>(
     hooks: &Hooks,
 ) -> Status
     requires { (K.moment keeper.old).target ≡ None }
-    ensures reference { options.target ≡ targets.Memory → IsReference (print_options options)
-        (rules_of hooks.now)
+    ensures reference { IsReference (print_options options) (rules_of hooks.now) options.target
         (moment_seen (S.left source.old) (S.faults source.old) (O.written sink.old) (O.faults sink.old)
         (K.moment keeper.old))
         result
@@ -113,68 +113,22 @@ fn run_with<S: Source, O: Sink, K: Keeper>(
         (faults (S.faults source.old) (O.faults sink.old) (K.moment keeper.old).faults)
         (faults (S.faults source.new) (O.faults sink.new) (K.moment keeper.new).faults) }
 {
-    let print = PrintOptions {
-        dialect: options.dialect,
-        echo: options.echo,
-    };
-    match options.target {
-        Target::Memory => run_in_memory(alloc, print, source, sink, keeper, hooks),
-        Target::File(name) => run_in_file(alloc, print, name, source, sink, keeper, hooks),
+    let Options {
+        dialect,
+        echo,
+        target,
+    } = options;
+    match keeper.attach(alloc, target) {
+        Ok(()) => run_script(
+            alloc,
+            PrintOptions { dialect, echo },
+            source,
+            sink,
+            keeper,
+            hooks,
+        ),
+        Err(stop) => status_untaken(stop),
     }
-}
-
-/// Does a script over a keeper in memory.
-fn run_in_memory<S: Source, O: Sink, K: Keeper>(
-    alloc: Global,
-    print: PrintOptions,
-    source: &mut S,
-    sink: &mut O,
-    keeper: &mut K,
-    hooks: &Hooks,
-) -> Status
-    requires { (K.moment keeper.old).target ≡ None }
-    ensures reference { IsReference print (rules_of hooks.now)
-        (moment_seen (S.left source.old) (S.faults source.old) (O.written sink.old) (O.faults sink.old)
-        (K.moment keeper.old))
-        result
-        (moment_seen (S.left source.new) (S.faults source.new) (O.written sink.new) (O.faults sink.new)
-        (K.moment keeper.new)) }
-    ensures through { IsReadThrough result (S.left source.old) (S.left source.new) }
-    ensures target { (K.moment keeper.new).target ≡ Some targets.Memory }
-    ensures usage { result ≢ Status.Usage }
-    ensures faults { ShowsFaults result (K.moment keeper.new).attached
-        (faults (S.faults source.old) (O.faults sink.old) (K.moment keeper.old).faults)
-        (faults (S.faults source.new) (O.faults sink.new) (K.moment keeper.new).faults) }
-{
-    match keeper.attach(alloc, Target::Memory) {
-        Ok(()) => run_script(alloc, print, source, sink, keeper, hooks),
-        Err(KeeperStop::Fault) => Status::KeeperFault,
-        Err(KeeperStop::Memory) => Status::Memory,
-    }
-}
-
-/// Does a script over a keeper in the file of a name.
-fn run_in_file<S: Source, O: Sink, K: Keeper>(
-    alloc: Global,
-    print: PrintOptions,
-    name: Name,
-    source: &mut S,
-    sink: &mut O,
-    keeper: &mut K,
-    hooks: &Hooks,
-) -> Status
-    requires { (K.moment keeper.old).target ≡ None }
-    ensures through { IsReadThrough result (S.left source.old) (S.left source.new) }
-    ensures target { (K.moment keeper.new).target ≡ Some (targets.File name) }
-    ensures usage { result ≢ Status.Usage }
-    ensures faults { ShowsFaults result (K.moment keeper.new).attached
-        (faults (S.faults source.old) (O.faults sink.old) (K.moment keeper.old).faults)
-        (faults (S.faults source.new) (O.faults sink.new) (K.moment keeper.new).faults) }
-{
-    if let Err(stop) = keeper.attach(alloc, Target::File(name)) {
-        return status_untaken(stop);
-    }
-    run_script(alloc, print, source, sink, keeper, hooks)
 }
 
 /// The status of a run whose keeper did not take its target.

@@ -69,7 +69,7 @@ tables_compiled dialect schema = each_compiled dialect schema (dependency_order 
 
 -- ---- lines
 
--- what is answered to a line that compiles; what objects compile to is yet to come
+-- what is answered to a line that compiles by the tables alone: not one of objects
 abbrev pub compiled_line : Catalog → Command → Checked (List ℕ)
 compiled_line schema (line.CompileRows dialect s) = compiled_rows dialect schema s
 compiled_line schema (line.CompileBulk dialect b) = compiled_bulk dialect schema b

@@ -12,4 +12,5 @@ mod text;
 
 pub use line::compile_line;
 pub use lines::{put_later_foreigns, put_sent};
+pub use statements::lines_of_statement;
 pub use tables::compile_tables;

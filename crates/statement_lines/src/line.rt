@@ -13,8 +13,8 @@ use schema_core::Schema;
 use script_types::Command;
 use std::alloc::Global;
 
-/// What is answered to a line that compiles: `compile DIALECT rows SELECT`, `compile DIALECT bulk BULK` and `compile DIALECT table
-/// NAME`, each with its text, and behind it, where it has values, a line of these.
+/// What is answered to a line that compiles by the tables alone: `compile DIALECT rows SELECT`, `compile DIALECT bulk BULK` and
+/// `compile DIALECT table NAME`, each with its text, and behind it, where it has values, a line of these.
 ///
 /// # Errors
 /// The first of the line's names and kinds, as `resolve_select` and `resolve_bulk` answer them, and `Unknown` of a name that no

@@ -55,8 +55,8 @@ fn lines_of(alloc: Global, dialect: Dialect, compiled: &Compiled) -> Result<Stri
     Ok(format!(in alloc; "{shown}\n")?)
 }
 
-/// The lines of a statement.
-fn lines_of_statement(
+/// The lines of a statement: its text, and behind it, where it has values, a line of these.
+pub fn lines_of_statement(
     alloc: Global,
     dialect: Dialect,
     schema: &Schema,

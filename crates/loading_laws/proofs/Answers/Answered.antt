@@ -7,7 +7,6 @@ use Rattle.std.specs.Ordering.{match_ordering, nat_cmp, ordering_then}
 use Rattle.std.specs.Cmp.{nat_cmp_is}
 use Rattle.std.specs.Cmp.Lexicographic.{slice_cmp}
 use Rattle.std.specs.BTreeMap.{insert_entry}
-use Rattle.base_core.specs.declared.ids.ColumnNo.{ColumnNo}
 use Rattle.base_core.specs.declared.ids.TableId.{TableId}
 use Rattle.base_core.specs.declared.value.Value.{Value}
 use Rattle.base_core.specs.declared.refusal.Refusal.{Refusal}
@@ -16,8 +15,7 @@ use Rattle.schema_core.specs.Tables.{same_values}
 use Rattle.expr_types.specs.declared.expr.Expr.{Expr}
 use Rattle.expr_types.specs.declared.expr.Expr.TheVariants as expr
 use Rattle.expr_types.specs.declared.select.Select.{Select}
-use Rattle.expr_types.specs.Level.{aggregate_level, has_aggregate}
-use Rattle.expr_types.proofs.Folds.{fold-Column}
+use Rattle.expr_types.specs.Level.{has_aggregate}
 use Rattle.sql_semantics.specs.Plain.{is_grouped}
 use Rattle.sql_semantics.specs.Checked.{Checked, ◌>>=◌}
 use Rattle.sql_semantics.specs.Eval.{Row, Tables, all_from, meaning_of}
@@ -27,6 +25,7 @@ use Rattle.sql_semantics.specs.declared.sort_key.SortKey.{SortKey}
 use Rattle.sql_semantics.specs.Order.{Rank, in_order, key_cmp, rank_cmp, ranked_from}
 use Rattle.sql_semantics.specs.Rows.{Frame, answer, answer_rows, at, groups_having, keys_from, mapped_from, of_rows, output, require_created, rows_where, sources, tables_of}
 use Rattle.load_columns.specs.declared.placing.SourceColumn.{SourceColumn}
+use Rattle.collection_selects.proofs.Standing.{lacks_column}
 use Rattle.load_selects.specs.declared.sources.Further.{Further}
 use Rattle.load_selects.specs.Selects.{item_of, select_of}
 use Rattle.loading_laws.specs.Answers.Answers.{value_at, values_at}
@@ -73,13 +72,9 @@ as_they_come g xs = ranked_last g [] 0 xs tt
 
 -- ---- a select of columns
 
-no_aggregate : (s : ℕ) (c : ColumnNo) → has_aggregate (expr.Column s c) ≡ false
-unfolding has_aggregate
-no_aggregate s c = fold-Column Bool aggregate_level s c
-
 no_aggregates : (items : List SourceColumn) → list_any has_aggregate (map (λ i. i.0) (map item_of items) ++ []) ≡ false
 no_aggregates [] = refl
-no_aggregates (c ∷ items) = ap (λ b. b || list_any has_aggregate (map (λ i. i.0) (map item_of items) ++ [])) (no_aggregate c.source c.column) ∙ no_aggregates items
+no_aggregates (c ∷ items) = ap (λ b. b || list_any has_aggregate (map (λ i. i.0) (map item_of items) ++ [])) (lacks_column c.source c.column) ∙ no_aggregates items
 
 module _ (first : TableId) (further : List Further) (items : List SourceColumn) (conditions : List Expr) where
   abbrev whole : Select

@@ -161,7 +161,7 @@ pub record IsReady (mapped : Mapped) (class : ClassId) (place : RelNo) (row : Ro
 module _ (mapped : Mapped) (has : HasHierarchies mapped) (class : ClassId) (place : RelNo) (within : place.0 < length (relations_of mapped class)) (row : Row) (first graph : Graph) (fit : IsFit mapped first) (extends : Extends mapped first graph)
     (owner : ObjId) (found : find_identity graph (root_of mapped class) (row_key mapped class row) ≡ Some owner) (of : is_of graph mapped class owner ≡ true) where
   inherited : place.0 < length (relations_of mapped (object_at graph owner).class)
-  inherited = (inherits mapped (object_at graph owner).class class place has of within).within
+  inherited = (inherits mapped (object_at graph owner).class class place has.paired of within).within
 
   -- one that there was
   ready_old : IsObject first owner → find_identity first (root_of mapped class) (row_key mapped class row) ≡ Some owner → IsReady mapped class place row first graph owner

@@ -152,13 +152,14 @@ filled_by : (place : RelNo) (owner : ObjId) (link : Option Link) (own : Loading)
 filled_by place owner None own is waits = leaves_same place own.graph is
 filled_by place owner (Some link) own is waits = leaves_put place own.graph owner link is (waits link refl)
 
-collection_waits : (read : List ObjId) (link now : Link) → collection_of read link ≡ Some now → is_unloaded link ≡ true
+-- a link that a load fills was unloaded
+pub collection_waits : (read : List ObjId) (link now : Link) → collection_of read link ≡ Some now → is_unloaded link ≡ true
 collection_waits read Unset now e = absurd cc
 collection_waits read (Unloaded added removed) now e = refl
 collection_waits read (One end changed) now e = absurd cc
 collection_waits read (Many members base) now e = absurd cc
 
-end_waits : (end : Option ObjId) (link now : Link) → end_of end link ≡ Some now → is_unloaded link ≡ true
+pub end_waits : (end : Option ObjId) (link now : Link) → end_of end link ≡ Some now → is_unloaded link ≡ true
 end_waits end Unset now e = absurd cc
 end_waits end (Unloaded added removed) now e = refl
 end_waits end (One other changed) now e = absurd cc

@@ -34,12 +34,12 @@ use Rattle.class_mapping.proofs.Having.{Has, all_of, any_has, found_of, has_at, 
 use Rattle.class_mapping.proofs.LineLemmas.{line_within}
 use Rattle.class_mapping.proofs.RelatedLemmas.{has_class_from, own_line}
 use Rattle.object_arena.specs.declared.object.Object.{Object}
-use Rattle.object_arena.specs.declared.object.State.{State}
 use Rattle.object_arena.specs.declared.object.State.TheVariants.{Persistent}
 use Rattle.object_arena.specs.Fit.{ObjectFits, key_fits}
 use Rattle.object_arena.specs.Graph.{Graph, IsObject, is_persistent, no_class_id, no_object, object_at, place_of, root_at}
 use Rattle.object_arena.specs.Identity.{find_identity, has_key}
 use Rattle.object_arena.proofs.GraphLemmas.{same_equiv}
+use Rattle.object_parts.proofs.Expiries.{persistent_is}
 use Rattle.relations.specs.Mirror.{is_of}
 use Rattle.mapping_laws.proofs.KeyKinds.{keys_alike}
 use Rattle.mapping_laws.specs.Hierarchies.{HasHierarchies, HasTables, kinds_of}
@@ -338,10 +338,6 @@ module _ (mapped : Mapped) (class : ClassId) (tables : Tables) (all : List Row) 
 
 -- ---- an object that the identity map has
 
-persistent_by : (state : State) → is_persistent state ≡ true → state ≡ Persistent
-persistent_by Persistent is = refl
-persistent_by state is = absurd cc
-
 -- an object that the identity map has under a key: it is persistent, fits its class, which is of the hierarchy, and no part of its key is
 -- NULL
 record IsHolder (mapped : Mapped) (class : ClassId) (key : List Value) (object : ObjId) (w : World) : Type 0 where
@@ -360,7 +356,7 @@ holder_of mapped class key object w stage found =
     let record_of : Object = object_at graph object in
     let inside : place_of object < length graph.objects = omega (arith, stands.0.0, stands.0.1) in
     let parts = and_parts (is_persistent record_of.state) ((root_at graph object).0 == root.0 && has_key key record_of.identity) stands.1 in
-    let persistent : record_of.state ≡ Persistent = persistent_by record_of.state parts.0 in
+    let persistent : record_of.state ≡ Persistent = persistent_is record_of.state parts.0 in
     let fits : ObjectFits mapped record_of = stage.fit.objects (place_of object) no_object inside in
     let own_class : ClassId = record_of.class in
     let rooted : root_at graph object ≡ root_of mapped own_class =

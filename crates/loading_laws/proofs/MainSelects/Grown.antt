@@ -106,7 +106,7 @@ column_more schema sources more column h =
       },
     )
 
-columns_more : (schema : Catalog) (sources more : List Origin) (columns : List SourceColumn) → AllByRecursion (IsColumn schema sources) columns → AllByRecursion (IsColumn schema (sources ++ more)) columns
+pub columns_more : (schema : Catalog) (sources more : List Origin) (columns : List SourceColumn) → AllByRecursion (IsColumn schema sources) columns → AllByRecursion (IsColumn schema (sources ++ more)) columns
 columns_more schema sources more [] h = tt
 columns_more schema sources more (column ∷ columns) h = (column_more schema sources more column h.0, columns_more schema sources more columns h.1)
 

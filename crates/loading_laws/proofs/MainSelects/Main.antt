@@ -226,7 +226,7 @@ module _ (mapped : Mapped) (target : ClassId) (placement : Placement) (under : L
       every_append (IsColumn mapped.schema under) (key_at_rank mapped target placement from) (flat_map (key_at_rank mapped target placement) (range_with_len (from + 1) n)) (keys_at from (omega (arith, most)))
       (keys_from (from + 1) n (omega (arith, most)))
 
-  option_there : HasHierarchies mapped → IsClass mapped target → (known : HasTables mapped target) → AllByRecursion (IsColumn mapped.schema under) (option_columns mapped target placement)
+  pub option_there : HasHierarchies mapped → IsClass mapped target → (known : HasTables mapped target) → AllByRecursion (IsColumn mapped.schema under) (option_columns mapped target placement)
   option_there has less known =
       let some = ap (λ (tables : List TableId). length tables) known.first in
       every_append (IsColumn mapped.schema under) (attribute_columns mapped target placement) (further_keys mapped target placement) (attributes_there mapped target has less known placement under stands)

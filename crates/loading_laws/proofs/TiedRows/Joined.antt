@@ -43,7 +43,8 @@ use Rattle.loading_laws.specs.Wide.Parts.{all_hold, cell, cells, holds_at, is_tr
 use Rattle.loading_laws.specs.Wide.Answers.{AreBehind, AreOfSources, AreWideIn, joined_row, joined_rows, own_columns, query_partners}
 use Rattle.loading_laws.proofs.Wide.Conditions.{conjoined_tests, equalities_total}
 use Rattle.loading_laws.proofs.Wide.Places.{wide_long, wide_more}
-use Rattle.loading_laws.specs.TiedRows.{BeginsWith, GivesTied, OptionsGiveTied, members_in, tied_at}
+use Rattle.known_queries.specs.Known.{BeginsWith}
+use Rattle.loading_laws.specs.TiedRows.{GivesTied, OptionsGiveTied, members_in, tied_at}
 use Rattle.loading_laws.proofs.TiedRows.Behind.{cell_chosen, cells_chosen, equals_hold, first_alike, inside_alike, next_row, row_at}
 use Rattle.loading_laws.proofs.TiedRows.Options.{parts_tied, tied_parts}
 use Rattle.loading_laws.proofs.TiedRows.Owners.{IsOwner, StandsFirst, legal_rank}

@@ -16,7 +16,7 @@ use Rattle.loading_laws.specs.Wide.Parts.{cell, cells}
 use Rattle.loading_laws.specs.Wide.Answers.{AreAnswered, AreBlocks, AreInBlocks, AreOfSources, CanBeJoined, CutsOwners, HasOnePartner, joined_row, joined_rows, left_of, options_sources, own_columns, query_partners}
 use Rattle.loading_laws.proofs.Wide.Joins.{every_map}
 use Rattle.loading_laws.proofs.Wide.Lefts.{partners_some}
-use Rattle.loading_laws.proofs.Wide.Main.{flat_singles, flat_where, main_multiplies}
+use Rattle.loading_laws.proofs.Wide.Main.{flat_singles, flat_where, main_multiplies, of_plain}
 
 -- ---- what is left of lists
 
@@ -138,7 +138,7 @@ module _ (mapped : Mapped) (tables : Tables) (query : ObjectQuery) where
   in_blocks cuts (Err e) (Err d) h = h
 
   pub main_in_blocks : CanBeJoined mapped tables query → CutsOwners mapped tables query → AreInBlocks mapped tables query (answer mapped.schema tables query.select) (answer mapped.schema tables (main_select mapped query))
-  main_in_blocks can cuts = in_blocks cuts (answer mapped.schema tables query.select) (answer mapped.schema tables (main_select mapped query)) (main_multiplies mapped tables query can)
+  main_in_blocks can cuts = in_blocks cuts (answer mapped.schema tables query.select) (answer mapped.schema tables (main_select mapped query)) (main_multiplies mapped tables query (of_plain mapped tables query can))
 
   -- of two answers
   pub blocks_of : CanBeJoined mapped tables query → CutsOwners mapped tables query → (plain rows : List Row) → answer mapped.schema tables query.select ≡ Ok plain → answer mapped.schema tables (main_select mapped query) ≡ Ok rows

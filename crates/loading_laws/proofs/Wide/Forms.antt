@@ -73,7 +73,7 @@ more_columns s wide more columns others h = record {
       (append_assoc s.items (map item_of columns) (map item_of others) ∙ ap (λ (items : Items). s.items ++ items) (sym (map-append item_of columns others)));
 }
 
-joins_long : (schema : Catalog) (wide : Select) (others : List Further) → suc (length (fold (with_left_join schema) wide others).joins) ≡ suc (length wide.joins) + length others
+pub joins_long : (schema : Catalog) (wide : Select) (others : List Further) → suc (length (fold (with_left_join schema) wide others).joins) ≡ suc (length wide.joins) + length others
 joins_long schema wide [] = omega arith
 joins_long schema wide (further ∷ others) =
     let rest = joins_long schema (with_left_join schema wide further) others in
@@ -119,7 +119,7 @@ pub record IsMain (mapped : Mapped) (query : ObjectQuery) (more : List Further) 
   pub left : AreLeft joins more
   pub is : main_select mapped query ≡ under query.select joins columns (length (sources_of query.select)) (length more)
 
-count_is : (s : Select) → suc (length s.joins) ≡ length (sources_of s)
+pub count_is : (s : Select) → suc (length s.joins) ≡ length (sources_of s)
 count_is s = let long = length-map s.joins (λ (join : Joined). join.origin) in omega (arith, long)
 
 shifted_form : (s wide : Select) (more : List Further) (columns : List SourceColumn) (h : IsWidened s more columns wide) → with_shifted s wide ≡ under s h.joins columns (length (sources_of s)) (length more)

@@ -23,7 +23,7 @@ use Rattle.sql_semantics.specs.Checked.{Checked, ◌>>=◌}
 use Rattle.sql_semantics.specs.Eval.{Row, Tables, meaning_of, rows_in}
 use Rattle.sql_semantics.specs.Kinds.{Scope, column_in}
 use Rattle.sql_semantics.specs.Order.{key_of}
-use Rattle.sql_semantics.specs.Plain.{IfSet, IsFilter, IsPlainSelect, StandsIn, fits, is_grouped, outputs, sources_of}
+use Rattle.sql_semantics.specs.Plain.{IfSet, IsFilter, StandsIn, fits, is_grouped, outputs, sources_of}
 use Rattle.sql_semantics.specs.Rows.{answer, keys_from, require_created, sources, tables_of}
 use Rattle.sql_semantics.specs.Shapes.{AreRows, scope_of}
 use Rattle.sql_semantics.specs.declared.sort_key.SortKey.{SortKey}
@@ -35,6 +35,8 @@ use Rattle.load_selects.specs.declared.sources.Further.{Further}
 use Rattle.load_selects.specs.Selects.{item_of}
 use Rattle.main_selects.specs.MainSelect.{main_select}
 use Rattle.main_selects.specs.Shifted.{shifted}
+use Rattle.known_queries.specs.Known.{FindsColumns, finds_columns}
+use Rattle.known_queries.proofs.Found.{fits_finds}
 use Rattle.loading_laws.proofs.Answers.Totals.{map_twice}
 use Rattle.loading_laws.specs.Wide.Parts.{cell, cells, place_of, whole}
 use Rattle.loading_laws.specs.Wide.Partners.{partners}
@@ -115,16 +117,21 @@ under_single s own columns joins n m reads single =
 
 -- ---- conditions and keys under more sources
 
-abbrev FitsWhere : Catalog → Scope → Option Expr → Type 0
-FitsWhere schema scope None = Unit {0}
-FitsWhere schema scope (Some e) = fits schema e scope ≡ true
+abbrev Finds : Catalog → Scope → Expr → Type 0
+Finds schema scope e = finds_columns schema e scope ≡ true
 
-where_fits : (schema : Catalog) (sources : List Origin) (filter : Option Expr) → IfSet (IsFilter schema sources) filter → FitsWhere schema (map (λ origin. origin.table) sources) filter
-where_fits schema sources None h = tt
-where_fits schema sources (Some e) h = h.condition.stands.fitting
+where_finds : (schema : Catalog) (sources : List Origin) (filter : Option Expr) → IfSet (IsFilter schema sources) filter → IfSet (Finds schema (map (λ origin. origin.table) sources)) filter
+where_finds schema sources None h = tt
+where_finds schema sources (Some e) h = fits_finds schema e (map (λ (origin : Origin). origin.table) sources) h.condition.stands.fitting
+
+order_finds : (schema : Catalog) (sources : List Origin) (order : List (Expr × Bool)) → AllByRecursion (λ (key : Expr × Bool). StandsIn schema sources key.0) order
+    → AllByRecursion (λ (key : Expr × Bool). Finds schema (map (λ origin. origin.table) sources) key.0) order
+order_finds schema sources order stands =
+    let scope : Scope = map (λ (origin : Origin). origin.table) sources in
+    every_gives (λ (key : Expr × Bool). StandsIn schema sources key.0) (λ (key : Expr × Bool). Finds schema scope key.0) (λ key one. fits_finds schema key.0 scope one.fitting) order stands
 
 module _ (schema : Catalog) (tables : Tables) (wide_rows : HasWideRows schema tables) (scope : Scope) (rows others : SourceRows) (wide : AreWideIn schema scope rows) (own more : ℕ) (own_is : length rows ≡ own) (more_is : length others ≡ more) where
-  same_at : (e : Expr) → fits schema e scope ≡ true → meaning_of (shifted own more e) (place_of tables (rows ++ others)) ≡ meaning_of e (place_of tables rows)
+  same_at : (e : Expr) → Finds schema scope e → meaning_of (shifted own more e) (place_of tables (rows ++ others)) ≡ meaning_of e (place_of tables rows)
   same_at e fit =
       ap (λ (k : ℕ). meaning_of (shifted k more e) (place_of tables (rows ++ others))) (sym own_is)
       ∙ ap (λ (k : ℕ). meaning_of (shifted (length rows) k e) (place_of tables (rows ++ others))) (sym more_is)
@@ -132,14 +139,14 @@ module _ (schema : Catalog) (tables : Tables) (wide_rows : HasWideRows schema ta
       ∙ wider_same schema tables rows others wide_rows e scope [] (subst (AreWideIn schema scope) (sym (append-nil rows)) wide) fit
       ∙ ap (λ (l : List Row). meaning_of e (place_of tables l)) (append-nil rows)
 
-  same_keys : (order : List (Expr × Bool)) → AllByRecursion (λ (key : Expr × Bool). fits schema key.0 scope ≡ true) order → (done : List SortKey)
+  same_keys : (order : List (Expr × Bool)) → AllByRecursion (λ (key : Expr × Bool). Finds schema scope key.0) order → (done : List SortKey)
       → keys_from (place_of tables (rows ++ others)) done (map (λ (key : Expr × Bool). (shifted own more key.0, key.1)) order) ≡ keys_from (place_of tables rows) done order
   same_keys [] fit done = refl
   same_keys (key ∷ order) fit done =
       ap (λ (told : Checked Value). told >>= λ v. keys_from (place_of tables (rows ++ others)) (done ++ key_of key.1 v ∷ []) (map (λ (one : Expr × Bool). (shifted own more one.0, one.1)) order)) (same_at key.0 fit.0)
       ∙ alike_then (meaning_of key.0 (place_of tables rows)) _ _ (λ v. same_keys order fit.1 (done ++ key_of key.1 v ∷ []))
 
-  same_where : (filter : Option Expr) → FitsWhere schema scope filter → SameWhere tables (option_map (shifted own more) filter) (rows ++ others) filter rows
+  same_where : (filter : Option Expr) → IfSet (Finds schema scope) filter → SameWhere tables (option_map (shifted own more) filter) (rows ++ others) filter rows
   same_where None fit = tt
   same_where (Some e) fit = same_at e fit
 
@@ -164,7 +171,37 @@ flat_singles {B = B} f (x ∷ xs) = ap (λ (l : List B). f x ∷ l) (flat_single
 
 -- ---- the law
 
-module _ (mapped : Mapped) (tables : Tables) (query : ObjectQuery) (h : CanBeJoined mapped tables query) where
+-- a query without groups whose own select and main select find their columns, over tables with rows of theirs
+pub record HasColumns (mapped : Mapped) (tables : Tables) (query : ObjectQuery) : Type 0 where
+  pub reads : query.select.items ≡ map item_of (own_columns mapped query)
+  pub single : is_grouped query.select ≡ false
+  pub own : AllByRecursion (IsColumnIn mapped.schema (scope_of query.select)) (own_columns mapped query)
+  pub finds : FindsColumns mapped.schema query.select
+  pub main : AllByRecursion (IsColumnIn mapped.schema (scope_of (main_select mapped query))) (own_columns mapped query ++ options_columns mapped query.class (length (sources_of query.select)) query.joined)
+  pub held : AreRows mapped.schema tables
+  pub created : require_created tables (tables_of (main_select mapped query)) ≡ Ok tt
+
+-- plain selects do so
+pub of_plain : (mapped : Mapped) (tables : Tables) (query : ObjectQuery) → CanBeJoined mapped tables query → HasColumns mapped tables query
+of_plain mapped tables query h =
+    let schema : Catalog = mapped.schema in
+    let s : Select = query.select in
+    let main : Select = main_select mapped query in
+    let own : List SourceColumn = own_columns mapped query in
+    let columns : List SourceColumn = options_columns mapped query.class (length (sources_of s)) query.joined in
+    let reads : main.items ≡ map item_of (own ++ columns) =
+    ap (λ (one : Select). one.items) (main_is mapped query).is ∙ ap (λ (items : List (Expr × Option (List ℕ))). items ++ map item_of columns) h.reads ∙ sym (map-append item_of own columns) in
+    record {
+      reads = h.reads;
+      single = h.single;
+      own = items_inside schema (sources_of s) own (subst (AllByRecursion (λ (item : Expr × Option (List ℕ)). StandsIn schema (sources_of s) item.0)) h.reads h.plain.items_stand);
+      finds = record { filter = where_finds schema (sources_of s) s.filter h.plain.filter_stands; order = order_finds schema (sources_of s) s.order h.plain.order_stands };
+      main = items_inside schema (sources_of main) (own ++ columns) (subst (AllByRecursion (λ (item : Expr × Option (List ℕ)). StandsIn schema (sources_of main) item.0)) reads h.main.items_stand);
+      held = h.held;
+      created = h.created;
+    }
+
+module _ (mapped : Mapped) (tables : Tables) (query : ObjectQuery) (h : HasColumns mapped tables query) where
   abbrev schema : Catalog
   schema = mapped.schema
 
@@ -195,29 +232,23 @@ module _ (mapped : Mapped) (tables : Tables) (query : ObjectQuery) (h : CanBeJoi
   abbrev main : Select
   main = under s form.joins columns n (length more)
 
-  main_plain : IsPlainSelect schema main
-  main_plain = subst (IsPlainSelect schema) form.is h.main
-
   main_created : require_created tables (tables_of main) ≡ Ok tt
   main_created = sym (ap (λ (one : Select). require_created tables (tables_of one)) form.is) ∙ h.created
 
   own_inside : AllByRecursion (IsColumnIn schema scope) own
-  own_inside = items_inside schema (sources_of s) own (subst (AllByRecursion (λ (item : Expr × Option (List ℕ)). StandsIn schema (sources_of s) item.0)) h.reads h.plain.items_stand)
+  own_inside = h.own
 
   main_reads : main.items ≡ map item_of (own ++ columns)
   main_reads = ap (λ (items : List (Expr × Option (List ℕ))). items ++ map item_of columns) h.reads ∙ sym (map-append item_of own columns)
 
   main_inside : AllByRecursion (IsColumnIn schema (scope_of main)) (own ++ columns)
-  main_inside = items_inside schema (sources_of main) (own ++ columns) (subst (AllByRecursion (λ (item : Expr × Option (List ℕ)). StandsIn schema (sources_of main) item.0)) main_reads main_plain.items_stand)
+  main_inside = subst (λ (one : Select). AllByRecursion (IsColumnIn schema (scope_of one)) (own ++ columns)) form.is h.main
 
   main_scope : scope_of main ≡ scope ++ map (λ further. further.table) more
   main_scope =
       ap (λ (origins : List Origin). s.first.table ∷ map (λ (origin : Origin). origin.table) origins) (map-append (λ (join : Joined). join.origin) s.joins form.joins)
       ∙ ap (λ (l : Scope). s.first.table ∷ l) (map-append (λ (origin : Origin). origin.table) (map (λ (join : Joined). join.origin) s.joins) (map (λ (join : Joined). join.origin) form.joins))
       ∙ ap (λ (l : Scope). scope ++ l) (left_tables form.joins more form.left)
-
-  order_fits : (order : List (Expr × Bool)) → AllByRecursion (λ (key : Expr × Bool). StandsIn schema (sources_of s) key.0) order → AllByRecursion (λ (key : Expr × Bool). fits schema key.0 scope ≡ true) order
-  order_fits order stands = every_gives (λ (key : Expr × Bool). StandsIn schema (sources_of s) key.0) (λ (key : Expr × Bool). fits schema key.0 scope ≡ true) (λ key one. one.fitting) order stands
 
   scope_long : length scope ≡ n
   scope_long = length-map (sources_of s) (λ (origin : Origin). origin.table)
@@ -293,10 +324,10 @@ module _ (mapped : Mapped) (tables : Tables) (query : ObjectQuery) (h : CanBeJoi
         wide = every_map Behind (AreWideIn schema (scope_of main)) (λ others. rows ++ others) (λ others b. subst (λ (one : Scope). AreWideIn schema one (rows ++ others)) (sym main_scope) b.wide) ps wide;
         passes =
             every_map Behind (λ one. SameWhere tables main.filter one s.filter rows) (λ others. rows ++ others)
-            (λ others b. same_where schema tables wide_rows scope rows others made.wide n (length more) long b.long s.filter (where_fits schema (sources_of s) s.filter h.plain.filter_stands)) ps wide;
+            (λ others b. same_where schema tables wide_rows scope rows others made.wide n (length more) long b.long s.filter h.finds.filter) ps wide;
         ranks =
             every_map Behind (λ one. keys_at tables main.order one ≡ keys_at tables s.order rows) (λ others. rows ++ others)
-            (λ others b. same_keys schema tables wide_rows scope rows others made.wide n (length more) long b.long s.order (order_fits s.order h.plain.order_stands) []) ps wide;
+            (λ others b. same_keys schema tables wide_rows scope rows others made.wide n (length more) long b.long s.order h.finds.order []) ps wide;
       }
 
   main_carried : HasAnswer (AllByRecursion MainCarried) told

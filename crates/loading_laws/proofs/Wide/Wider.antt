@@ -12,12 +12,13 @@ use Rattle.expr_types.specs.declared.expr.Expr.TheFolds.{map-Expr}
 use Rattle.expr_types.specs.Level.{is_aggregate_function, operands, scope_below}
 use Rattle.expr_types.proofs.Folds.{bare, by_levels}
 use Rattle.sql_semantics.specs.Kinds.{Scope}
-use Rattle.sql_semantics.specs.Plain.{fits, fits_level}
 use Rattle.sql_semantics.specs.Checked.{Checked, ◌>>=◌}
 use Rattle.sql_semantics.specs.Truth.{passes}
 use Rattle.sql_semantics.specs.Eval.{Row, Tables, Place, Meaning, meaning_of, meaning, all_from, call_meaning, group_values, aggregate_value, function_value, some_from, inside, rows_in, two, three}
-use Rattle.sql_semantics.proofs.Equations.{enter, fits_rolled, rolled}
+use Rattle.sql_semantics.proofs.Equations.{enter, rolled}
 use Rattle.main_selects.specs.Shifted.{shifted}
+use Rattle.known_queries.specs.Known.{finds_column, finds_columns}
+use Rattle.known_queries.proofs.Found.{found_rolled}
 use Rattle.loading_laws.specs.Wide.Parts.{place_of}
 use Rattle.loading_laws.specs.Wide.Answers.{AreWideIn, table_width}
 use Rattle.loading_laws.proofs.Wide.Levels.{between, moved, shifted_rolled}
@@ -64,7 +65,7 @@ module _ (schema : Catalog) (tables : Tables) (own extra : List Row) (rows : Has
   more = shifted (length own) (length extra)
 
   abbrev Claim : Expr → Type 0
-  Claim e = (scope : Scope) (inner : List Row) → AreWideIn schema scope (own ++ inner) → fits schema e scope ≡ true → meaning_of (more e) (wide inner) ≡ meaning_of e (narrow inner)
+  Claim e = (scope : Scope) (inner : List Row) → AreWideIn schema scope (own ++ inner) → finds_columns schema e scope ≡ true → meaning_of (more e) (wide inner) ≡ meaning_of e (narrow inner)
 
   abbrev Known : Type 0
   Known = (e : Expr) × Claim e
@@ -72,16 +73,16 @@ module _ (schema : Catalog) (tables : Tables) (own extra : List Row) (rows : Has
   abbrev plain : List Known → List Expr
   plain = map (λ k. k.0)
 
-  abbrev fitting : Expr-F Known → Expr-F (Scope → Bool)
-  fitting y = map-Expr Expr (Scope → Bool) (fits schema) (bare y)
+  abbrev finding : Expr-F Known → Expr-F (Scope → Bool)
+  finding y = map-Expr Expr (Scope → Bool) (finds_columns schema) (bare y)
 
   abbrev Agrees : List Row → Known → Type 0
   Agrees inner k = meaning_of (more k.0) (wide inner) ≡ meaning_of k.0 (narrow inner)
 
-  each : (scope : Scope) (inner : List Row) → AreWideIn schema scope (own ++ inner) → (ks : List Known) → list_all (λ (holds : Scope → Bool). holds scope) (map (fits schema) (plain ks)) ≡ true → AllByRecursion (Agrees inner) ks
+  each : (scope : Scope) (inner : List Row) → AreWideIn schema scope (own ++ inner) → (ks : List Known) → list_all (λ (holds : Scope → Bool). holds scope) (map (finds_columns schema) (plain ks)) ≡ true → AllByRecursion (Agrees inner) ks
   each scope inner w [] h = tt
   each scope inner w (k ∷ ks) h =
-      let both = and_parts (fits schema k.0 scope) (list_all (λ (holds : Scope → Bool). holds scope) (map (fits schema) (plain ks))) h in
+      let both = and_parts (finds_columns schema k.0 scope) (list_all (λ (holds : Scope → Bool). holds scope) (map (finds_columns schema) (plain ks))) h in
       (k.1 scope inner w both.0, each scope inner w ks both.1)
 
   all_same : (inner : List Row) (ks : List Known) → AllByRecursion (Agrees inner) ks → (done : List Value) → all_from (wide inner) done (map meaning_of (map more (plain ks))) ≡ all_from (narrow inner) done (map meaning_of (plain ks))
@@ -102,7 +103,7 @@ module _ (schema : Catalog) (tables : Tables) (own extra : List Row) (rows : Has
   narrow_inside : (inner : List Row) (r : Row) → inside (narrow inner) r ≡ narrow (inner ++ r ∷ [])
   narrow_inside inner r = inside_is tables (own ++ inner) r ∙ ap (place_of tables) (append_assoc own inner (r ∷ []))
 
-  some_same : (scope : Scope) (inner : List Row) → AreWideIn schema scope (own ++ inner) → (t : TableId) (k : Known) → fits schema k.0 (scope ++ t ∷ []) ≡ true → (rs : List Row) → AllByRecursion (λ r. length r ≡ table_width schema t) rs → (found : Bool)
+  some_same : (scope : Scope) (inner : List Row) → AreWideIn schema scope (own ++ inner) → (t : TableId) (k : Known) → finds_columns schema k.0 (scope ++ t ∷ []) ≡ true → (rs : List Row) → AllByRecursion (λ r. length r ≡ table_width schema t) rs → (found : Bool)
       → some_from (wide inner) (meaning_of (more k.0)) found rs ≡ some_from (narrow inner) (meaning_of k.0) found rs
   some_same scope inner w t k g [] all found = refl
   some_same scope inner w t k g (r ∷ rs) all found =
@@ -111,8 +112,8 @@ module _ (schema : Catalog) (tables : Tables) (own extra : List Row) (rows : Has
       (ap (meaning_of (more k.0)) (wide_inside inner r) ∙ k.1 (scope ++ t ∷ []) (inner ++ r ∷ []) within g ∙ sym (ap (meaning_of k.0) (narrow_inside inner r)))
       ∙ alike_then (meaning_of k.0 (inside (narrow inner) r)) _ _ (λ v. some_same scope inner w t k g rs all.1 (found || passes v))
 
-  level : (y : Expr-F Known) (scope : Scope) (inner : List Row) → AreWideIn schema scope (own ++ inner) → fits_level schema scope (fitting y) ≡ true
-      → list_all (λ (holds : Scope → Bool). holds (scope_below enter scope (fitting y))) (operands (fitting y)) ≡ true
+  level : (y : Expr-F Known) (scope : Scope) (inner : List Row) → AreWideIn schema scope (own ++ inner) → finds_column schema scope (finding y) ≡ true
+      → list_all (λ (holds : Scope → Bool). holds (scope_below enter scope (finding y))) (operands (finding y)) ≡ true
       → meaning (map-Expr Expr Meaning meaning_of (moved (length own) (length extra) (map-Expr Expr Expr more (bare y)))) (wide inner) ≡ meaning (map-Expr Expr Meaning meaning_of (bare y)) (narrow inner)
   level (Expr-F.Column s c) scope inner w f h = ap Ok (same_column schema scope tables own extra inner s c w f)
   level (Expr-F.Lit v) scope inner w f h = refl
@@ -148,13 +149,13 @@ module _ (schema : Catalog) (tables : Tables) (own extra : List Row) (rows : Has
   level (Expr-F.Call g es) scope inner w f h = call_same inner g es (each scope inner w es h)
   level Expr-F.CountAll scope inner w f h = refl
   level (Expr-F.Exists g o a) scope inner w f h =
-      let k = and_parts (fits schema a.0 (scope ++ o.table ∷ [])) true h in
+      let k = and_parts (finds_columns schema a.0 (scope ++ o.table ∷ [])) true h in
       one_same (some_from (wide inner) (meaning_of (more a.0)) false (rows_in tables o.table.0)) (some_from (narrow inner) (meaning_of a.0) false (rows_in tables o.table.0)) _
       (some_same scope inner w o.table a k.0 (rows_in tables o.table.0) (rows o.table) false)
 
   step : (y : Expr-F Known) → Claim (roll-Expr (bare y))
   step y scope inner w h =
-      let both = and_parts (fits_level schema scope (fitting y)) (list_all (λ (holds : Scope → Bool). holds (scope_below enter scope (fitting y))) (operands (fitting y))) (sym (fits_rolled schema scope (bare y)) ∙ h) in
+      let both = and_parts (finds_column schema scope (finding y)) (list_all (λ (holds : Scope → Bool). holds (scope_below enter scope (finding y))) (operands (finding y))) (sym (found_rolled schema scope (bare y)) ∙ h) in
       ap (λ (e : Expr). meaning_of e (wide inner)) (shifted_rolled (length own) (length extra) (bare y))
       ∙ ap (λ (m : Meaning). m (wide inner)) (rolled (moved (length own) (length extra) (map-Expr Expr Expr more (bare y)))) ∙ level y scope inner w both.0 both.1
       ∙ sym (ap (λ (m : Meaning). m (narrow inner)) (rolled (bare y)))

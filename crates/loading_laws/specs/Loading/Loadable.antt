@@ -33,7 +33,7 @@ use Rattle.load_calls.specs.Reading.{World}
 use Rattle.load_targets.specs.ForeignKeys.{value_of}
 use Rattle.table_laws.specs.Legality.{AreSound}
 use Rattle.loading_laws.specs.Wide.Answers.{own_columns}
-use Rattle.loading_laws.specs.TiedRows.{BeginsWith}
+use Rattle.known_queries.specs.Known.{BeginsWith}
 
 -- ---- the tables
 

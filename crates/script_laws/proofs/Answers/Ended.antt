@@ -3,7 +3,10 @@ use Rattle.std.proofs.Common.{◌≡◌, ◌⊎◌, inl, inr, ℕ, Bool, true, f
 use Rattle.base_core.specs.declared.refusal.Refusal.{Refusal}
 use Rattle.class_types.specs.Rules.{Rules}
 use Rattle.program_words.specs.declared.options.Options.{Options}
+use Rattle.keeper_core.specs.Keeping.{new_store}
 use Rattle.keeper_core.specs.Moment.{Told}
+use Rattle.keeper_core.specs.declared.target.Target.{Target}
+use Rattle.keeper_core.specs.declared.target.Target.TheVariants as targets
 use Rattle.keeper_core.specs.Programs.{Event, Log, Run, ◌>>=◌, continue_from, each, give}
 use Rattle.keeper_core.specs.Store.{Store}
 use Rattle.byte_streams.specs.Scripts.{lines_of}
@@ -14,8 +17,8 @@ use Rattle.sqla_shell.specs.declared.ending.Ending.{Ending}
 use Rattle.sqla_shell.specs.declared.ending.Ending.TheVariants.{Finished, TooLong}
 use Rattle.sqla_shell.specs.declared.status.Status.{Status}
 use Rattle.sqla_shell.specs.declared.status.Status.TheVariants as status
-use Rattle.sqla_shell.specs.Outcome.{Ends, IsReferenceOf, log_with}
-use Rattle.sqla_shell.specs.Reference.{close_and_tell, do_and_reply, end_script, end_unless_too_long, reference, script, start, writes}
+use Rattle.sqla_shell.specs.Outcome.{Ends, IsReferenceWhere, IsTakenRun, log_with}
+use Rattle.sqla_shell.specs.Reference.{close_and_tell, do_and_reply, end_script, end_unless_too_long, reference, reference_over, script, start, writes}
 use Rattle.sqla_shell.specs.Seen.{Seen, faults_of}
 use Rattle.sqla_shell.specs.Words.{IsRun, print_options}
 use Rattle.script_laws.specs.Answers.Runs.{EndsAsItsLinesAnswer, IsFaultless}
@@ -52,12 +55,22 @@ script_finishes rules bytes short = finishes_then (each (do_and_reply rules) tt 
 module _ (options : PrintOptions) (rules : Rules) (bytes written : List ℕ) (told : Told Store) where
   -- the keeper or memory failed, or the reference tells how the run ends
   abbrev Reached : Status → Type 0
-  Reached end = ((end ≡ status.KeeperFault) ⊎ (end ≡ status.Memory)) ⊎ ((log : Log) × Ends (reference options rules bytes) written end log)
+  Reached end = ((end ≡ status.KeeperFault) ⊎ (end ≡ status.Memory)) ⊎ ((log : Log) × Ends (reference options rules bytes) (log_with new_store.log written) end log)
 
-  reached : (before : Option (Told Store)) (end : Status) (attached : Bool) (now : Option (List ℕ)) → IsReferenceOf options rules (Some bytes) (Some written) before end attached now (Some told) → Reached end
-  reached before end attached None is = absurd is
-  reached before end false (Some now) is = inl is.2
-  reached before end true (Some now) is = inr (log_with told.log now, is.0)
+  taken : (before : Option (Told Store)) (end : Status) (now : Option (List ℕ)) → IsTakenRun options rules targets.Memory (Some bytes) (Some written) before end now (Some told) → Reached end
+  taken before end None is = absurd is
+  taken before end (Some now) is =
+      inr (log_with told.log now, subst (λ (first : Told Store). Ends (reference_over options rules first.world.tables bytes) (log_with first.log written) end (log_with told.log now)) is.1 is.2.run)
+
+  reached : (target : Target) (old : Seen) (end : Status) (new : Seen) (attached : Bool) → target ≡ targets.Memory → old.left ≡ Some bytes → old.written ≡ Some written → new.keeper.told ≡ Some told
+      → IsReferenceWhere attached options rules target old end new → Reached end
+  reached target old end new false memory left wrote tells is = inl is.3
+  reached target old end new true memory left wrote tells is =
+      taken old.keeper.told end new.written
+      (subst (λ (t : Target). IsTakenRun options rules t (Some bytes) (Some written) old.keeper.told end new.written (Some told)) memory
+      (subst (λ (now : Option (Told Store)). IsTakenRun options rules target (Some bytes) (Some written) old.keeper.told end new.written now) tells
+      (subst (λ (before : Option (List ℕ)). IsTakenRun options rules target (Some bytes) before old.keeper.told end new.written new.keeper.told) wrote
+      (subst (λ (from : Option (List ℕ)). IsTakenRun options rules target from old.written old.keeper.told end new.written new.keeper.told) left is))))
 
   ended : (lines_of bytes).too_long ≡ false → (end : Status) (attached : Bool) (old new : Faults) → IsFaultless old new → ShowsFaults end attached old new → Reached end → (end ≡ status.Memory) ⊎ (end ≡ done_status (reference options rules bytes).after.own.desk.refused)
   ended short status.Done attached old new faultless shows (inr ends) = inr (ap done_status (sym ends.1.1))
@@ -77,13 +90,11 @@ module _ (options : PrintOptions) (rules : Rules) (bytes written : List ℕ) (to
   ended short status.TooLong attached old new faultless shows (inl (inl is)) = absurd cc
   ended short status.TooLong attached old new faultless shows (inl (inr is)) = absurd cc
 
-pub run_ends : (options : Options) (rules : Rules) (old : Seen) (end : Status) (new : Seen) → IsRun options rules old end new → ShowsFaults end new.keeper.attached (faults_of old) (faults_of new) → EndsAsItsLinesAnswer (print_options options) rules old end new
-run_ends options rules old end new (inl none) shows bytes written told left wrote tells short faultless = inl none.0
-run_ends options rules old end new (inr is) shows bytes written told left wrote tells short faultless =
+pub run_ends : (options : Options) (rules : Rules) (old : Seen) (end : Status) (new : Seen) → options.target ≡ targets.Memory → IsRun options rules old end new → ShowsFaults end new.keeper.attached (faults_of old) (faults_of new)
+    → EndsAsItsLinesAnswer (print_options options) rules old end new
+run_ends options rules old end new memory (inl none) shows bytes written told left wrote tells short faultless = inl none.0
+run_ends options rules old end new memory (inr is) shows bytes written told left wrote tells short faultless =
     let print : PrintOptions = print_options options in
-    let same =
-    subst (λ (now : Option (Told Store)). IsReferenceOf print rules (Some bytes) (Some written) old.keeper.told end new.keeper.attached new.written now) tells
-    (subst (λ (before : Option (List ℕ)). IsReferenceOf print rules (Some bytes) before old.keeper.told end new.keeper.attached new.written new.keeper.told) wrote
-    (subst (λ (from : Option (List ℕ)). IsReferenceOf print rules from old.written old.keeper.told end new.keeper.attached new.written new.keeper.told) left is)) in
     ⊎_elim inl (λ is. inr (is ∙ ap done_status (script_counts print rules bytes short)))
-    (ended print rules bytes written told short end new.keeper.attached (faults_of old) (faults_of new) faultless shows (reached print rules bytes written told old.keeper.told end new.keeper.attached new.written same))
+    (ended print rules bytes written told short end new.keeper.attached (faults_of old) (faults_of new) faultless shows
+    (reached print rules bytes written told options.target old end new new.keeper.attached memory left wrote tells is))

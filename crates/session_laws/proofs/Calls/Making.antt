@@ -161,6 +161,7 @@ module _ (mapped : Mapped) (class : ClassId) (given : List (AttrNo × Value)) (g
         settled = λ is. absurd (let h : Transient ≡ Pending = sym new.transient ∙ is in cc);
         unmarked = new.unmarked;
         expired = λ persists. not_held new_object Transient refl new.transient persists;
+        unloaded = λ persists. not_held new_object Transient refl new.transient persists;
       })
   rest_made (scope ∷ scopes) rest = tt
 

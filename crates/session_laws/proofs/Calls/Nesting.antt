@@ -24,7 +24,7 @@ use Rattle.session_acts.specs.Savepoints.{begin_savepoint, commit_transaction, r
 use Rattle.session_laws.specs.Sound.{AreSoundScopes, EachObject, IsAtRest, IsFresh, IsMarkedRight, IsSettled, IsSound, RestIf}
 use Rattle.session_laws.proofs.Sound.Beginning.{scope_begun}
 use Rattle.session_laws.proofs.Sound.Changes.{IsLater, scopes_kept}
-use Rattle.session_laws.proofs.Sound.Everyone.{KeepsHolders, each_changed, each_graph, expired_cells, identified_as, not_held}
+use Rattle.session_laws.proofs.Sound.Everyone.{KeepsHolders, each_changed, each_graph, expired_cells, identified_as, not_held, unloaded_links}
 use Rattle.session_laws.proofs.Sound.Programs.{then_sound}
 use Rattle.session_laws.proofs.Sound.Touches.{not_true, other_answer}
 
@@ -145,11 +145,11 @@ committed_holders : KeepsHolders object_committed
 committed_holders = record { persists = λ o persists. persists_in o.state o persists; identity = λ o persists. identity_in o.state o; identified = λ o is. identified_in o.state o refl is }
 
 rest_in : (state : State) (o : Object) → o.state ≡ state → IsSettled o → IsAtRest (object_committed_in state o)
-rest_in Transient o at s = record { settled = s.settled; unmarked = s.unmarked; expired = λ persists. not_held o Transient refl at persists }
-rest_in Pending o at s = record { settled = s.settled; unmarked = s.unmarked; expired = λ persists. not_held o Pending refl at persists }
-rest_in Persistent o at s = record { settled = s.settled; unmarked = s.unmarked; expired = λ persists attr less. expired_cells o.cells attr.0 }
-rest_in Deleted o at s = record { settled = λ is. absurd cc; unmarked = s.unmarked; expired = λ persists. absurd cc }
-rest_in Detached o at s = record { settled = s.settled; unmarked = s.unmarked; expired = λ persists. not_held o Detached refl at persists }
+rest_in Transient o at s = record { settled = s.settled; unmarked = s.unmarked; expired = λ persists. not_held o Transient refl at persists; unloaded = λ persists. not_held o Transient refl at persists }
+rest_in Pending o at s = record { settled = s.settled; unmarked = s.unmarked; expired = λ persists. not_held o Pending refl at persists; unloaded = λ persists. not_held o Pending refl at persists }
+rest_in Persistent o at s = record { settled = s.settled; unmarked = s.unmarked; expired = λ persists attr less. expired_cells o.cells attr.0; unloaded = λ persists. unloaded_links o.links }
+rest_in Deleted o at s = record { settled = λ is. absurd cc; unmarked = s.unmarked; expired = λ persists. absurd cc; unloaded = λ persists. absurd cc }
+rest_in Detached o at s = record { settled = s.settled; unmarked = s.unmarked; expired = λ persists. not_held o Detached refl at persists; unloaded = λ persists. not_held o Detached refl at persists }
 
 -- of an object at rest nothing is known that a row could contradict
 rest_fresh : (mapped : Mapped) (tables : Tables) (o : Object) → IsAtRest o → IsFresh mapped tables o

@@ -46,7 +46,7 @@ then_after : {A B : Type 0} (m : World → Run World A) (next : A → World → 
 unfolding ◌>>=◌
 then_after {A} m next w a is = subst (λ (found : Result A Refusal). (continue_from (m w).events (m w).after found next).after ≡ (next a (m w).after).after) (sym is) refl
 
-passes : (fault : SessionState → Option Refusal) (w : World) → fault w.own ≡ None → (checked fault w).answer ≡ Ok tt
+pub passes : (fault : SessionState → Option Refusal) (w : World) → fault w.own ≡ None → (checked fault w).answer ≡ Ok tt
 unfolding checked by_own give
 passes fault w none = ap (λ (f : Option Refusal). (unless f w).answer) none
 

@@ -32,7 +32,7 @@ pub record IsReady (mapped : Mapped) (graph : Graph) (old : Tables) : Type 0 whe
   pub sorted : IsSorted old
   pub told : IsTold mapped graph (prepared_of graph) old
 
-sendable_then : (schema : Catalog) (changes : RowChanges) (planned : List Planned) (sofar : Sofar) → HoldWhenSent (λ sent one. is_sendable schema changes sent.keys one ≡ true) schema changes sofar planned → AreSendable schema changes sofar planned
+pub sendable_then : (schema : Catalog) (changes : RowChanges) (planned : List Planned) (sofar : Sofar) → HoldWhenSent (λ sent one. is_sendable schema changes sent.keys one ≡ true) schema changes sofar planned → AreSendable schema changes sofar planned
 sendable_then schema changes [] sofar all = tt
 sendable_then schema changes (one ∷ planned) sofar all = (all.0, λ next sent. sendable_then schema changes planned next (all.1 next sent))
 

@@ -54,7 +54,7 @@ module _ (schema : Catalog) (changes : RowChanges) where
       ∙ kept planned (was_missing schema changes planned joined.middle) keys last joined.middle (send w).after joined.second
       ∙ ap (λ (u : World). Ok (sofar_of u last)) (sym joined.after)
 
-  sent_one : (planned : Planned) (keys last : Keys) (w : World) → (send_one schema changes planned keys w).answer ≡ Ok last → send schema changes (sofar_of w keys) planned ≡ Ok (sofar_of (send_one schema changes planned keys w).after last)
+  pub sent_one : (planned : Planned) (keys last : Keys) (w : World) → (send_one schema changes planned keys w).answer ≡ Ok last → send schema changes (sofar_of w keys) planned ≡ Ok (sofar_of (send_one schema changes planned keys w).after last)
   unfolding send_one send
   sent_one planned keys last w is = sent_if planned (is_sendable schema changes keys planned) keys last w is
 

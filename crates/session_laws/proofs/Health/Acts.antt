@@ -40,6 +40,7 @@ use Rattle.session_acts.specs.Flush.{flush, is_to_delete, prepared_of}
 use Rattle.session_acts.specs.Outcome.{changes_of}
 use Rattle.session_laws.proofs.Flushes.Flushing.{IsFlushSent, flush_sent}
 use Rattle.session_acts.specs.Steps as acts
+use Rattle.session_acts.proofs.Unwritten.{scope_open}
 use Rattle.session_acts.specs.Steps.{IsPlainButForKeys, flush_now, flush_whole, flushing, orphan_fault}
 use Rattle.session_laws.specs.Sound.{EachObject, IsCommittable, IsHandled, IsSound, IsWell, IsWritten}
 use Rattle.session_laws.proofs.Sound.Beginning.{enter_sound, entered_graph, entered_mapping, entered_open}
@@ -90,10 +91,6 @@ pub record IsInside (mapped : Mapped) (world : World) : Type 0 where
 pub some_scopes : (scopes : List Scope) → has_scope scopes ≡ true → 0 < length scopes
 some_scopes [] is = absurd cc
 some_scopes (scope ∷ scopes) is = omega arith
-
-pub open_scopes : (scopes : List Scope) → 0 < length scopes → has_scope scopes ≡ true
-open_scopes [] some = absurd (omega (arith, some))
-open_scopes (scope ∷ scopes) some = refl
 
 pub begun_handled : (failed : Bool) (scopes : List Scope) (scope : Scope) (n : ℕ) → failed ≡ false → scopes ≡ [] → n ≡ depth_in failed scopes - 1 → n ≡ depth_in failed (scope ∷ scopes) - 1
 begun_handled failed scopes scope n well none handled =
@@ -384,7 +381,7 @@ module _ (keeps : FlushLeavesSound) (answers : FlushWritesAll) where
       let x : World = (flush_whole v).after in
       acted (statements.bulk statement) x (record {
         sound = bulk_sound statement x
-            (record { inside = open_scopes x.own.frames.scopes done.committable.inside; fit = done.fit }, subst (λ (m : Mapped). IsPlainBulk m.schema statement) (sym done.same) inside.1)
+            (record { inside = scope_open x.own.frames.scopes done.committable.inside; fit = done.fit }, subst (λ (m : Mapped). IsPlainBulk m.schema statement) (sym done.same) inside.1)
             done.healthy.sound;
         tidy = ((bulk_clean statement).kept x (clean w.own.mapping x done)).tidy;
       })))).here

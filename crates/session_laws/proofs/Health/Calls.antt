@@ -22,18 +22,18 @@ use Rattle.session_objects.specs.ValueSteps.{cell_kept, given_fault, made_unless
 use Rattle.session_laws.specs.Sound.{IsSound}
 use Rattle.session_laws.proofs.Sound.Beginning.{new_sound}
 use Rattle.session_laws.proofs.Sound.Ending.{close_sound}
-use Rattle.session_laws.proofs.Sound.Objects.{delete_sound, made_there, read_sound, set_sound}
+use Rattle.session_laws.proofs.Sound.Objects.{delete_sound, made_there, set_sound}
 use Rattle.session_laws.proofs.Sound.Programs.{checked_then, entered_then}
 use Rattle.session_laws.proofs.Sound.Rolling.{handle_sound, rollback_sound}
 use Rattle.session_laws.proofs.Calls.Adding.{add_sound}
 use Rattle.session_laws.proofs.Calls.Making.{make_sound}
-use Rattle.session_laws.proofs.LinkCalls.Linking.{always_once, change_sound, related_sound}
+use Rattle.session_laws.proofs.LinkCalls.Linking.{always_once, change_sound}
 use Rattle.session_laws.proofs.TableCalls.Dropping.{drop_sound}
 use Rattle.session_laws.proofs.TableCalls.Making.{create_sound}
 use Rattle.session_laws.specs.Health.Calls.{Call, CallsKeepHealth, CallsKeepOne, MayCall, MayCallAll, after_call, after_calls}
 use Rattle.session_laws.specs.Health.Health.{IsHealthy, IsOrderlySession, IsTidy, IsWhole}
 use Rattle.session_laws.proofs.Health.Acts.{FlushLeavesSound, FlushWritesAll, bulk_healthy, commit_healthy, flush_now_healthy, handle_healthy, nested_healthy, ready, rows_healthy}
-use Rattle.session_laws.proofs.Health.Programs.{add_tidy, close_tidy, delete_tidy, enter_tidy, handle_tidy, link_tidy, read_tidy, related_tidy, rollback_tidy, set_tidy, tables_tidy, tidy_checked, tidy_then}
+use Rattle.session_laws.proofs.Health.Programs.{add_tidy, close_tidy, delete_tidy, enter_tidy, handle_tidy, link_tidy, rollback_tidy, set_tidy, tables_tidy, tidy_checked, tidy_then}
 use Rattle.session_laws.proofs.Health.Sessions.{object_orderly}
 
 -- ---- a new session
@@ -96,10 +96,8 @@ module _ (keeps : FlushLeavesSound) (answers : FlushWritesAll) (rules : Rules) w
   call_healthy (Call.Add object) w whole may healthy =
       record { sound = add_sound object w (always_once w.own.mapping w.own.graph object may) healthy.sound; tidy = (add_tidy object).kept w healthy.tidy }
   call_healthy (Call.Set object attr value) w whole may healthy = record { sound = valid_sound rules object attr value w may healthy.sound; tidy = (valid_tidy rules object attr value).kept w healthy.tidy }
-  call_healthy (Call.Read object attr) w whole may healthy = record { sound = read_sound attr object w may healthy.sound; tidy = (read_tidy object attr).kept w healthy.tidy }
   call_healthy (Call.Delete object) w whole may healthy = record { sound = delete_sound object w may healthy.sound; tidy = (delete_tidy object).kept w healthy.tidy }
   call_healthy (Call.ChangeLink owner place call) w whole may healthy = record { sound = change_sound owner place call w whole.fit may.0 may.1 healthy.sound; tidy = (link_tidy owner place call).kept w healthy.tidy }
-  call_healthy (Call.ReadLink object place) w whole may healthy = record { sound = related_sound object place w healthy.sound; tidy = (related_tidy object place).kept w healthy.tidy }
   call_healthy Call.Flush w whole may healthy = flush_now_healthy keeps answers w whole healthy
   call_healthy Call.Commit w whole may healthy = commit_healthy keeps answers w whole healthy
   call_healthy Call.Rollback w whole may healthy = record { sound = rollback_sound w healthy.sound; tidy = rollback_tidy w (ready w healthy) }

@@ -25,20 +25,19 @@ use Rattle.keeper_core.specs.Store.{Store}
 use Rattle.relations.specs.declared.calls.LinkCall.{LinkCall}
 use Rattle.sql_semantics.specs.Applied.{table_of}
 use Rattle.session_parts.specs.Ends.{object_committed_in}
-use Rattle.session_scopes.specs.Changes.{cell_read, deletion_marked, value_put}
+use Rattle.session_scopes.specs.Changes.{deletion_marked, value_put}
 use Rattle.session_scopes.specs.Handles.{place_of_handle}
 use Rattle.session_scopes.specs.Making.{object_made}
 use Rattle.session_scopes.specs.Scoping.{session_begun, session_closed, session_committed, session_nested, session_released, session_restored, session_rolled_back}
 use Rattle.session_scopes.specs.SessionState.{SessionState, in_transaction, with_notes}
 use Rattle.session_calls.specs.Parts.{World, checked, go_back, roll_back_scope, unless}
-use Rattle.session_calls.specs.Steps.{begin_unless, close, delete, enter, go_back_if, pending_fault, read_cell, roll_back_if, roll_back_place, rollback, rollback_handle, set_cell, set_fitting}
+use Rattle.session_calls.specs.Steps.{begin_unless, close, delete, enter, go_back_if, pending_fault, roll_back_if, roll_back_place, rollback, rollback_handle, set_cell, set_fitting}
 use Rattle.session_acts.specs.Savepoints.{begin_savepoint, check_handle, commit_transaction, commit_whole, enter_nested, handle_fault, limit_fault, release_handle, release_many, release_one, release_place}
 use Rattle.session_objects.specs.Conflicts.{add_fault}
 use Rattle.session_objects.specs.Steps.{add, add_inside}
 use Rattle.session_objects.specs.Taking.{session_added}
 use Rattle.session_links.specs.Linking.{change_fault, session_changed}
-use Rattle.session_links.specs.Reading.{link_read}
-use Rattle.session_links.specs.Steps.{change_inside, change_link, read_related}
+use Rattle.session_links.specs.Steps.{change_inside, change_link}
 use Rattle.session_statements.specs.Rewriting.{session_reread}
 use Rattle.session_statements.specs.Steps as statements
 use Rattle.session_tables.specs.declared.tables.TableChange.{TableChange}
@@ -108,14 +107,6 @@ set_tidy object attr value =
     tidy_then (checked (λ session. value_fault session.mapping (object_at session.graph object) attr value)) (λ u. set_fitting object attr value) (tidy_checked (λ session. value_fault session.mapping (object_at session.graph object) attr value))
     (λ u. tidy_then enter (λ u. on_own (value_put object attr value)) enter_tidy (λ u. tidy_own (value_put object attr value) (value_orderly object attr value)))
 
-read_kept : (object : ObjId) (attr : AttrNo) (own : SessionState) → IsOrderlySession own → IsOrderlySession (cell_read object attr own).after
-unfolding cell_read
-read_kept object attr own orderly = orderly
-
-pub read_tidy : (object : ObjId) (attr : AttrNo) → Keeps IsTidy (read_cell object attr)
-unfolding read_cell
-read_tidy object attr = tidy_then enter (λ u. on_own (cell_read object attr)) enter_tidy (λ u. tidy_own (cell_read object attr) (read_kept object attr))
-
 pub delete_tidy : (object : ObjId) → Keeps IsTidy (delete object)
 unfolding delete
 delete_tidy object = tidy_then enter (λ u. on_own (deletion_marked object)) enter_tidy (λ u. tidy_own (deletion_marked object) (marked_orderly object))
@@ -134,14 +125,6 @@ unfolding change_link
 link_tidy owner place call =
     tidy_then enter (λ u. change_inside owner place call) enter_tidy
     (λ u. tidy_then (checked (change_fault owner place call)) (λ u. changes (session_changed owner place call)) (tidy_checked (change_fault owner place call)) (λ u. tidy_changes (session_changed owner place call) (linked_orderly owner place call)))
-
-related_kept : (object : ObjId) (place : RelNo) (own : SessionState) → IsOrderlySession own → IsOrderlySession (link_read object place own).after
-unfolding link_read
-related_kept object place own orderly = orderly
-
-pub related_tidy : (object : ObjId) (place : RelNo) → Keeps IsTidy (read_related object place)
-unfolding read_related
-related_tidy object place = tidy_then enter (λ u. on_own (link_read object place)) enter_tidy (λ u. tidy_own (link_read object place) (related_kept object place))
 
 -- ---- tables and queries
 

@@ -1,6 +1,8 @@
 -- After a flush that was accepted the cells of every persistent object hold what its rows hold.
-use Rattle.std.proofs.Common.{◌≡◌, ℕ, ◌+◌, ◌-◌, ◌<◌, Bool, true, false, if◌then◌else◌, List, length, map, get_or, Option, None, Some, Ok, refl, sym, subst, ap, ◌∙◌, arith}
+use Rattle.std.proofs.Common.{◌≡◌, ℕ, ◌+◌, ◌-◌, ◌<◌, Bool, true, false, not, if◌then◌else◌, List, length, map, get_or, Option, None, Some, Ok, refl, sym, subst, ap, ◌∙◌, arith}
+use Rattle.std.specs.Prelude.{is_some}
 use Rattle.std.specs.List.{range_with_len}
+use Rattle.std.proofs.lemmas.Bool.{and_parts}
 use Rattle.base_core.specs.declared.ids.ObjId.{ObjId}
 use Rattle.base_core.specs.declared.value.Value.{Value}
 use Rattle.schema_core.specs.declared.changes.ChangedRow.{ChangedRow}
@@ -32,10 +34,10 @@ use Rattle.session_laws.proofs.Plans.Facts.{true_false}
 use Rattle.session_laws.proofs.Plans.FlushLaw.{accepted_stated}
 use Rattle.session_laws.proofs.Graphs.Projected.{all_projected}
 use Rattle.session_laws.proofs.Held.After.{ArePlaced, all_are_placed, order_made}
-use Rattle.session_laws.specs.Held.{AreHeld, FlushedObjectsHold, HoldsItsRows, IsWhollyKnown, placed_object}
+use Rattle.session_laws.specs.Held.{AreHeld, FlushedObjectsHold, HoldsItsRows, IsWhollyKnown, NewObjectsHaveKeys, placed_object}
 use Rattle.session_laws.proofs.Held.Done.{IsDone}
 use Rattle.session_laws.proofs.Held.Given.{given, key_given, written}
-use Rattle.session_laws.proofs.Held.New.{new_holds}
+use Rattle.session_laws.proofs.Held.New.{new_holds, new_keyed}
 use Rattle.session_laws.proofs.Held.Stays.{staying_holds}
 
 module _ (mapped : Mapped) (graph : Graph) (prepared : Prepared) (old : Tables) (held : AreHeld mapped graph prepared old) where
@@ -134,6 +136,37 @@ module _ (mapped : Mapped) (graph : Graph) (prepared : Prepared) (old : Tables) 
         (sym (ap (λ (v : Written). get_or (graph_written v).objects place no_object) same ∙ flushed_at after place less ∙ ap (object_flushed after (id_of_place place)) (sym here)))
         (held_in (id_of_place place) (object_at graph (id_of_place place)).state made refl)
 
+    not_pending : (object : ObjId) (state : State) → graphs.is_pending state ≡ false → (object_at graph object).state ≡ state → is_new graph prepared object ≡ true → ⊥
+    not_pending object state none is new =
+        true_false (sym (and_parts (graphs.is_pending (object_at graph object).state) (not (graphs.is_among prepared.transient object)) new).0 ∙ ap graphs.is_pending is ∙ none)
+
+    named : (object : ObjId) (key : Option (List Value)) → (new_object after object key (object_at graph object)).identity ≡ key
+    named object None = refl
+    named object (Some key) = refl
+
+    keyed_in : (object : ObjId) (state : State) → IsObject graph object → (object_at graph object).state ≡ state → is_new graph prepared object ≡ true → is_some (object_in state after object (object_at graph object)).identity ≡ true
+    keyed_in object Transient made is new = absurd (not_pending object Transient refl is new)
+    keyed_in object Pending made is new =
+        ap (λ (key : Option (List Value)). is_some key) (named object (key_of after object)) ∙ new_keyed mapped graph prepared old order put.placed sofar.tables done object made new
+    keyed_in object Persistent made is new = absurd (not_pending object Persistent refl is new)
+    keyed_in object Deleted made is new = absurd (not_pending object Deleted refl is new)
+    keyed_in object Detached made is new = absurd (not_pending object Detached refl is new)
+
+    all_keyed : (given : List (List Value)) → given ≡ map (key_of_new sofar.keys) (range_with_len 0 (length (project mapped graph prepared).fresh)) → (place : ℕ) → place < length graph.objects → is_new graph prepared (id_of_place place) ≡ true
+        → is_some (get_or (graph_written (written_with mapped prepared (project mapped graph prepared) given graph)).objects place no_object).identity ≡ true
+    all_keyed given is place less new =
+        let w : Written = written_with mapped prepared (project mapped graph prepared) given graph in
+        let same : w ≡ after = ap (λ (keys : List (List Value)). written_with mapped prepared (project mapped graph prepared) keys graph) (is ∙ ap (λ (known : Keys). map (key_of_new known) (range_with_len 0 (length (project mapped graph prepared).fresh))) put.same) in
+        let made : IsObject graph (id_of_place place) = (omega arith, omega (arith, less)) in
+        let here : object_at graph (id_of_place place) ≡ get_or graph.objects place no_object = let at : place + 1 - 1 ≡ place = omega arith in ap (λ (n : ℕ). get_or graph.objects n no_object) at in
+        subst (λ (it : Object). is_some it.identity ≡ true)
+        (sym (ap (λ (v : Written). get_or (graph_written v).objects place no_object) same ∙ flushed_at after place less ∙ ap (object_flushed after (id_of_place place)) (sym here)))
+        (keyed_in (id_of_place place) (object_at graph (id_of_place place)).state made refl new)
+
 pub flushed_held : FlushedObjectsHold
 flushed_held mapped graph prepared old statements sofar given held planned sent last is place less persists =
     all_held mapped graph prepared old held statements sofar planned sent last given is place less persists
+
+pub new_objects_keyed : NewObjectsHaveKeys
+new_objects_keyed mapped graph prepared old statements sofar given held planned sent last is place less new =
+    all_keyed mapped graph prepared old held statements sofar planned sent last given is place less new

@@ -1,6 +1,6 @@
 -- A new object holds, once its rows were written, what its rows hold.
 use Rattle.std.proofs.Common.{◌≡◌, ◌⊎◌, inl, inr, ℕ, ◌+◌, ◌-◌, ◌<◌, Bool, true, false, cond, ◌&&◌, ◌==◌, if◌then◌else◌, List, [], ◌∷◌, length, map, fold, get_or, is_eq, Option, None, Some, option_map, unwrap_or, refl, sym, subst, ap, ◌∙◌, arith}
-use Rattle.std.specs.Prelude.{slice_get}
+use Rattle.std.specs.Prelude.{is_some, slice_get}
 use Rattle.std.specs.BTreeMap.{insert_entry}
 use Rattle.std.specs.Cmp.Lexicographic.{as_long}
 use Rattle.std.specs.List.{AllByRecursion, enumerate_from, flat_map, position, range_with_len}
@@ -168,6 +168,15 @@ module _ (mapped : Mapped) (graph : Graph) (prepared : Prepared) (old : Tables) 
       has_place (flat_map (rows.rows_of mapped graph) (values_of (fold (with_queued graph prepared) [] (object_ids graph)))) (row_name object table)
       (has_flat (rows.rows_of mapped graph) (values_of (fold (with_queued graph prepared) [] (object_ids graph))) object (row_name object table)
       (queued_has graph prepared object new [] (object_ids graph) tt (inr (object_listed graph object made))) (has_map (row_name object) (tables_of mapped (object_at graph object).class) table has))
+
+  -- a new object has the key of its row
+  pub new_keyed : (object : ObjId) → IsObject graph object → is_new graph prepared object ≡ true → is_some (key_of now object) ≡ true
+  new_keyed object made new =
+      let class : ClassId = (object_at graph object).class in
+      let root : TableId = root_table mapped class in
+      let known : HasTables mapped class = known_tables mapped graph prepared old order placed after done object (fit_class mapped graph object done.own.fit made) in
+      let own = named object root made new (subst (λ (tables : List TableId). Has tables root) (sym known.first) (inl refl)) in
+      ap (λ (key : Option (List Value)). is_some key) (has_key_of mapped graph prepared old order placed after done own.0 (row_name object root) own.1)
 
   -- a new row, where it has an attribute: a column of the root's table, or one outside the key
   put_of : (object : ObjId) (q : ℕ) (table : TableId) (c : ℕ) → slice_get (new_names mapped graph prepared) q ≡ Some (row_name object table) → c < length (spec_of mapped.schema table).columns

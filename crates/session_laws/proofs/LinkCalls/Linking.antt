@@ -17,7 +17,7 @@ use Rattle.object_arena.specs.Fit.{IsFit}
 use Rattle.object_arena.specs.Graph.{Graph, IsObject, either_fault, object_at, with_link}
 use Rattle.object_arena.specs.Identity.{id_of_place}
 use Rattle.keeper_core.specs.Store.{Store}
-use Rattle.keeper_core.specs.Beside.{changes, on_own}
+use Rattle.keeper_core.specs.Beside.{changes}
 use Rattle.relations.specs.declared.calls.LinkCall.{LinkCall}
 use Rattle.relations.specs.declared.change.Change.{Change}
 use Rattle.relations.specs.declared.change.LinkPut.{LinkPut}
@@ -36,15 +36,14 @@ use Rattle.session_objects.proofs.JoiningLemmas.{come_still, may_come, may_join}
 use Rattle.session_objects.proofs.OutsiderLemmas.{outsiders_once}
 use Rattle.session_links.specs.Linking.{all_with, brings_in, change_fault, coming_along, fault_by, session_by, session_changed, session_linked, session_orphaned, session_put, unread_fault}
 use Rattle.session_links.specs.Relinked.{IsRelinked}
-use Rattle.session_links.specs.Reading.{link_read}
-use Rattle.session_links.specs.Steps.{change_inside, change_link, read_related}
+use Rattle.session_links.specs.Steps.{change_inside, change_link}
 use Rattle.session_links.proofs.Acting.{child_made}
 use Rattle.session_links.proofs.PutLemmas.{placed_later, relinked_more, relinked_orphan, relinked_put, relinked_same, stand_alike}
 use Rattle.session_laws.specs.Sound.{IsFresh, IsMarkedRight, IsSound}
 use Rattle.session_laws.proofs.Sound.Beginning.{enter_sound, entered_graph, entered_mapping, entered_open}
 use Rattle.session_laws.proofs.Sound.Changes.{object_of, one_changed}
 use Rattle.session_laws.proofs.Sound.Objects.{stands_kept}
-use Rattle.session_laws.proofs.Sound.Programs.{checked_then, entered_then, own_sound, then_sound}
+use Rattle.session_laws.proofs.Sound.Programs.{checked_then, then_sound}
 use Rattle.session_laws.proofs.Calls.Adding.{all_joined, still_open}
 use Rattle.session_laws.specs.LinkCalls.{ChangingLinksKeepsSound}
 use Rattle.session_laws.proofs.LinkCalls.Placing.{change_placed}
@@ -203,9 +202,3 @@ change_sound owner place call w fit made end sound =
     (subst (λ (g : Graph). IsObject g owner) (sym (entered_graph w)) made)
     (subst (λ (g : Graph). IsEnd g (end_of call)) (sym (entered_graph w)) end)
     (entered_open w u is) (enter_sound w sound))
-
--- ---- a link is read
-
-pub related_sound : (object : ObjId) (place : RelNo) (w : World) → IsSound w → IsSound (read_related object place w).after
-unfolding read_related link_read
-related_sound object place w sound = entered_then (λ u. on_own (link_read object place)) w sound (λ u v graph opened entered. own_sound (link_read object place) v entered)

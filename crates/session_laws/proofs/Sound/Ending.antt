@@ -69,6 +69,7 @@ closed_sound own tables store legal sound = record {
     settled = left_settled o.state;
     unmarked = refl;
     expired = λ persists. not_both (is_persistent (left_state o.state)) (left_persists o.state) persists;
+    unloaded = λ persists. not_both (is_persistent (left_state o.state)) (left_persists o.state) persists;
   });
 }
 

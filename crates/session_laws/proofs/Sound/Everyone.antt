@@ -6,13 +6,15 @@ use Rattle.std.proofs.lemmas.List.{get_or-map, length-map}
 use Rattle.base_core.specs.declared.ids.ClassId.{ClassId}
 use Rattle.base_core.specs.declared.value.Value.{Value}
 use Rattle.object_arena.specs.declared.object.Cell.{Cell}
+use Rattle.object_arena.specs.declared.object.Link.{Link}
+use Rattle.object_arena.specs.declared.object.Link.TheVariants.{Unloaded}
 use Rattle.object_arena.specs.declared.object.Object.{Object}
 use Rattle.object_arena.specs.declared.object.State.{State}
 use Rattle.object_arena.specs.Every.{each_object}
 use Rattle.object_arena.specs.Graph.{Graph, expired_cell, has_identity, is_persistent, no_class_id, no_object}
 use Rattle.object_arena.specs.Identity.{IsGraph, has_key, holds, holds_at, is_identified}
 use Rattle.object_arena.proofs.GraphLemmas.{held_inside}
-use Rattle.session_laws.specs.Sound.{EachObject}
+use Rattle.session_laws.specs.Sound.{AreUnloaded, EachObject}
 
 -- who is persistent after a change was so before, under the same identity
 pub record KeepsHolders (change : Object → Object) : Type 0 where
@@ -65,6 +67,11 @@ pub expired_cells : (cells : List Cell) (i : ℕ) → get_or (map (λ cell. expi
 expired_cells [] i = refl
 expired_cells (cell ∷ cells) zero = refl
 expired_cells (cell ∷ cells) (suc i) = expired_cells cells i
+
+-- and no link of one is loaded
+pub unloaded_links : (links : List Link) → AreUnloaded (map (λ link. Unloaded [] []) links)
+unloaded_links [] = tt
+unloaded_links (link ∷ links) = (refl, unloaded_links links)
 
 -- an object of another state is not persistent
 pub not_held : {A : Type 0} (o : Object) (state : State) → is_persistent state ≡ false → o.state ≡ state → is_persistent o.state ≡ true → A

@@ -20,9 +20,9 @@ use Rattle.keeper_core.specs.Store.{Store}
 use Rattle.keeper_core.specs.Beside.{on_own}
 use Rattle.schema_core.specs.Tables.{Tables}
 use Rattle.session_parts.specs.Depths.{has_scope}
-use Rattle.session_scopes.specs.Changes.{cell_read, delete_fault, deletion_marked, has_links, is_known, value_put}
+use Rattle.session_scopes.specs.Changes.{delete_fault, deletion_marked, has_links, is_known, value_put}
 use Rattle.session_scopes.specs.SessionState.{SessionState}
-use Rattle.session_calls.specs.Steps.{delete, read_cell, set_cell, set_fitting}
+use Rattle.session_calls.specs.Steps.{delete, set_cell, set_fitting}
 use Rattle.session_laws.specs.Sound.{IsFresh, IsMarkedRight, IsSound, KeepsSoundOf}
 use Rattle.session_laws.proofs.Sound.Changes.{object_of, one_changed}
 use Rattle.session_laws.proofs.Sound.Programs.{checked_then, entered_then, own_sound, unless_changed}
@@ -99,9 +99,3 @@ unfolding delete
 delete_sound object w made sound =
     entered_then (λ u. on_own (deletion_marked object)) w sound
     (λ u v graph opened entered. own_sound (deletion_marked object) v (mark_sound object v.own v.store (made_there w.own.graph v.own.graph object graph made) opened entered))
-
--- ---- what is read
-
-pub read_sound : (attr : AttrNo) → KeepsSoundOf (λ object. read_cell object attr)
-unfolding read_cell cell_read
-read_sound attr object w made sound = entered_then (λ u. on_own (cell_read object attr)) w sound (λ u v graph opened entered. own_sound (cell_read object attr) v entered)

@@ -21,8 +21,8 @@ use Rattle.savepoints.specs.Scopes.{Framed, all_wanted, any_below, back_to, cont
 use Rattle.savepoints.proofs.BackLemmas.{below_some, each_at, each_long, stands_back}
 use Rattle.session_laws.proofs.Scopes.Back.{read_stands, uncontested}
 use Rattle.session_laws.proofs.Scopes.Inside.{restored_long}
-use Rattle.session_laws.specs.Sound.{AreApart, EachObject, IsAsAtStart, IsAtRest, IsFresh, IsFreshUnder, IsSoundScope, as_object}
-use Rattle.session_laws.proofs.Sound.Everyone.{expired_cells, not_held}
+use Rattle.session_laws.specs.Sound.{AreApart, AreUnloaded, EachObject, IsAsAtStart, IsAtRest, IsFresh, IsFreshUnder, IsSoundScope, as_object}
+use Rattle.session_laws.proofs.Sound.Everyone.{expired_cells, not_held, unloaded_links}
 use Rattle.session_laws.proofs.Sound.Touches.{not_true}
 
 -- ---- an object that goes back
@@ -59,6 +59,13 @@ expired_at Pending o place at persists = not_held o Pending refl at persists
 expired_at Persistent o place at persists = expired_cells o.cells place
 expired_at Deleted o place at persists = not_held o Deleted refl at persists
 expired_at Detached o place at persists = not_held o Detached refl at persists
+
+unloaded_at : (state : State) (o : Object) → o.state ≡ state → is_persistent o.state ≡ true → AreUnloaded (expired_in state o).links
+unloaded_at Transient o at persists = not_held o Transient refl at persists
+unloaded_at Pending o at persists = not_held o Pending refl at persists
+unloaded_at Persistent o at persists = unloaded_links o.links
+unloaded_at Deleted o at persists = not_held o Deleted refl at persists
+unloaded_at Detached o at persists = not_held o Detached refl at persists
 
 same_state : (is_read : Bool) (o : Object) → (expired_where is_read o).state ≡ o.state
 same_state is_read o = ap (λ (s : Standing). s.state) (read_stands is_read o)
@@ -166,6 +173,7 @@ rest_read o settled unmarked = record {
   settled = λ is. settled (sym (same_state true o) ∙ is);
   unmarked = read_marked true o ∙ unmarked;
   expired = λ persists attr less. expired_at o.state o attr.0 refl (sym (ap is_persistent (same_state true o)) ∙ persists);
+  unloaded = λ persists. unloaded_at o.state o refl (sym (ap is_persistent (same_state true o)) ∙ persists);
 }
 
 -- ---- the objects after a rollback

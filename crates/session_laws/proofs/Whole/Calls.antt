@@ -22,10 +22,8 @@ may_call : (call : Call) (w : World) → IsCallOf call w → MayCall call w
 may_call (Call.Make class given) w of = tt
 may_call (Call.Add object) w of = of
 may_call (Call.Set object attr value) w of = of.0
-may_call (Call.Read object attr) w of = of
 may_call (Call.Delete object) w of = of
 may_call (Call.ChangeLink owner place call) w of = (of.made, of.end)
-may_call (Call.ReadLink object place) w of = tt
 may_call Call.Flush w of = tt
 may_call Call.Commit w of = tt
 may_call Call.Rollback w of = tt
@@ -42,10 +40,8 @@ module _ (rules : Rules) where
   call_keyed (Call.Make class given) w of has = make_keyed rules class given w of.0 of.1 has
   call_keyed (Call.Add object) w of has = (keyed.adds IsKeyed keyed_steps object).kept w has
   call_keyed (Call.Set object attr value) w of has = keyed.sets IsKeyed keyed_steps object attr value rules w of.1 has
-  call_keyed (Call.Read object attr) w of has = (keyed.reads IsKeyed keyed_steps object attr).kept w has
   call_keyed (Call.Delete object) w of has = (keyed.deletes IsKeyed keyed_steps object).kept w has
   call_keyed (Call.ChangeLink owner place call) w of has = keyed.links IsKeyed keyed_steps owner place call w of has
-  call_keyed (Call.ReadLink object place) w of has = (keyed.reads_links IsKeyed keyed_steps object place).kept w has
   call_keyed Call.Flush w of has = (keyed.flushes IsKeyed keyed_steps).kept w has
   call_keyed Call.Commit w of has = (keyed.commits IsKeyed keyed_steps).kept w has
   call_keyed Call.Rollback w of has = (keyed.rolls_back IsKeyed keyed_steps).kept w has
@@ -61,10 +57,8 @@ module _ (rules : Rules) where
   call_handled (Call.Make class given) w has = handled.make_handled rules class given w has
   call_handled (Call.Add object) w has = (handled.add_handled object).kept w has
   call_handled (Call.Set object attr value) w has = (handled.set_handled rules object attr value).kept w has
-  call_handled (Call.Read object attr) w has = (handled.read_handled object attr).kept w has
   call_handled (Call.Delete object) w has = (handled.delete_handled object).kept w has
   call_handled (Call.ChangeLink owner place call) w has = (handled.link_handled owner place call).kept w has
-  call_handled (Call.ReadLink object place) w has = (handled.related_handled object place).kept w has
   call_handled Call.Flush w has = handled.flush_handled w has
   call_handled Call.Commit w has = handled.commit_handled w has
   call_handled Call.Rollback w has = handled.rollback_handled w has

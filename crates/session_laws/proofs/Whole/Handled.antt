@@ -28,7 +28,7 @@ use Rattle.relations.specs.Mirror.{with_orphan}
 use Rattle.savepoints.specs.declared.scope.Scope.{Scope}
 use Rattle.savepoints.specs.Scopes.{begun_at, scope_released}
 use Rattle.sql_semantics.specs.Applied.{table_of}
-use Rattle.session_scopes.specs.Changes.{cell_read, changed_unless, delete_fault, deletion_marked, value_put}
+use Rattle.session_scopes.specs.Changes.{changed_unless, delete_fault, deletion_marked, value_put}
 use Rattle.session_scopes.specs.Handles.{place_of_handle}
 use Rattle.session_scopes.specs.Making as making
 use Rattle.session_scopes.specs.Scoping.{session_committed, session_failed, session_nested, session_released, session_restored, session_rolled_back}
@@ -36,14 +36,13 @@ use Rattle.session_scopes.specs.SessionState.{SessionState, depth_in, depth_of, 
 use Rattle.session_scopes.proofs.SessionLemmas.{around_scopes}
 use Rattle.keeper_core.specs.declared.notes.Note.{Note}
 use Rattle.session_calls.specs.Parts.{World, checked, fault_if, roll_back_scope}
-use Rattle.session_calls.specs.Steps.{begin_unless, close, delete, enter, go_back_if, pending_fault, read_cell, roll_back_place, rollback, rollback_handle, set_cell, set_fitting}
+use Rattle.session_calls.specs.Steps.{begin_unless, close, delete, enter, go_back_if, pending_fault, roll_back_place, rollback, rollback_handle, set_cell, set_fitting}
 use Rattle.session_calls.proofs.Acting.{no_scope_open, some_scope_open}
 use Rattle.session_acts.specs.Savepoints.{begin_savepoint, check_handle, commit_transaction, commit_whole, enter_nested, handle_fault, limit_fault, release_handle, release_many, release_one}
 use Rattle.session_objects.specs.Steps.{add}
 use Rattle.session_objects.specs.Taking.{added_then, coming_objects, session_added, session_joined, session_taken, taken_under, unmarked}
 use Rattle.session_links.specs.Linking.{change_fault, coming_along, session_by, session_changed, session_linked, session_orphaned, session_put}
-use Rattle.session_links.specs.Reading.{link_read}
-use Rattle.session_links.specs.Steps.{change_inside, change_link, read_related}
+use Rattle.session_links.specs.Steps.{change_inside, change_link}
 use Rattle.session_statements.specs.Rewriting.{graph_reread}
 use Rattle.session_statements.specs.Steps as statements
 use Rattle.session_tables.specs.declared.tables.TableChange.{TableChange}
@@ -179,14 +178,6 @@ owned m stays = keeping.owned HasHandles noted m stays
 
 -- ---- calls without a flush
 
-read_stays : (object : ObjId) (attr : AttrNo) (own : SessionState) → HasHandles own → HasHandles (cell_read object attr own).after
-unfolding cell_read
-read_stays object attr own has = has
-
-pub read_handled : (object : ObjId) (attr : AttrNo) → Keeps Handled (read_cell object attr)
-unfolding read_cell
-read_handled object attr = joined enter (λ u. on_own (cell_read object attr)) entered (λ u. owned (cell_read object attr) (read_stays object attr))
-
 mark_stays : (object : ObjId) (own : SessionState) → HasHandles own → HasHandles (deletion_marked object own).after
 unfolding deletion_marked
 mark_stays object own has = unless_handles (delete_fault (object_at own.graph object)) (with_object own.graph object (record (object_at own.graph object) { marked = true })) own has
@@ -236,14 +227,6 @@ link_handled owner place call =
     (λ u.
     joined (checked (change_fault owner place call)) (λ u. changes (session_changed owner place call)) (asked (change_fault owner place call))
     (λ u. keeping.changed HasHandles noted (session_changed owner place call) (changed_stays owner place call)))
-
-related_stays : (object : ObjId) (place : RelNo) (own : SessionState) → HasHandles own → HasHandles (link_read object place own).after
-unfolding link_read
-related_stays object place own has = has
-
-pub related_handled : (object : ObjId) (place : RelNo) → Keeps Handled (read_related object place)
-unfolding read_related
-related_handled object place = joined enter (λ u. on_own (link_read object place)) entered (λ u. owned (link_read object place) (related_stays object place))
 
 pub tables_handled : (change : TableChange) → Keeps Handled (change_all change)
 tables_handled change = keeping.tables HasHandles noted change

@@ -17,11 +17,12 @@ use Rattle.session_calls.specs.Steps.{begin_unless, enter}
 use Rattle.session_calls.proofs.Joining.{goes_itself}
 use Rattle.session_links.specs.Steps.{change_inside, change_link}
 use Rattle.session_acts.specs.Steps.{flush_whole}
+use Rattle.session_acts.proofs.Unwritten.{scope_open}
 use Rattle.session_laws.specs.LinkCalls.{IsLinkCall}
 use Rattle.session_laws.specs.Whole.{IsHale, IsKeyed}
 use Rattle.session_laws.specs.Loads.{IsLoad, loading_of}
 use Rattle.session_laws.proofs.Sound.Beginning.{entered_open}
-use Rattle.session_laws.proofs.Health.Acts.{FlushLeavesSound, FlushWritesAll, IsInside, IsLed, enter_led, flush_led, open_scopes, some_scopes}
+use Rattle.session_laws.proofs.Health.Acts.{FlushLeavesSound, FlushWritesAll, IsInside, IsLed, enter_led, flush_led, some_scopes}
 use Rattle.session_laws.proofs.Health.Programs.{link_tidy}
 use Rattle.session_laws.proofs.LinkCalls.Linking.{change_sound}
 use Rattle.session_laws.proofs.Loads.Laws.{whole_law}
@@ -84,7 +85,7 @@ flush_within keeps answers first w it =
       here = here;
       told = λ u is.
           let done = healthy.told u is in
-          record { hale = here; opened = open_scopes v.own.frames.scopes done.committable.inside; awake = done.committable.well.well; goes = since.same };
+          record { hale = here; opened = scope_open v.own.frames.scopes done.committable.inside; awake = done.committable.well.well; goes = since.same };
     }
 
 -- ---- loads

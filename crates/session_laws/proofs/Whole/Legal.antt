@@ -34,13 +34,13 @@ use Rattle.relations.specs.declared.calls.LinkCall.{LinkCall}
 use Rattle.relations.specs.declared.change.Change.{Change}
 use Rattle.relations.specs.declared.change.LinkPut.{LinkPut}
 use Rattle.relations.specs.Calls.{child_of, link_change}
-use Rattle.session_scopes.specs.Changes.{cell_read, changed_unless, delete_fault, deletion_marked, value_put}
+use Rattle.session_scopes.specs.Changes.{changed_unless, delete_fault, deletion_marked, value_put}
 use Rattle.session_scopes.specs.Handles.{place_of_handle}
 use Rattle.session_scopes.specs.Making as making
 use Rattle.session_scopes.specs.Scoping.{session_begun, session_closed, session_committed, session_nested, session_released, session_restored, session_rolled_back}
 use Rattle.session_scopes.specs.SessionState.{SessionState, in_transaction, with_notes}
 use Rattle.session_calls.specs.Parts.{World, checked, fault_if, go_back, roll_back_scope, unless}
-use Rattle.session_calls.specs.Steps.{begin_unless, close, delete, enter, go_back_if, pending_fault, read_cell, roll_back_if, roll_back_place, rollback, rollback_handle, set_cell, set_fitting}
+use Rattle.session_calls.specs.Steps.{begin_unless, close, delete, enter, go_back_if, pending_fault, roll_back_if, roll_back_place, rollback, rollback_handle, set_cell, set_fitting}
 use Rattle.session_acts.specs.Flush.{flush}
 use Rattle.session_acts.specs.Savepoints.{begin_savepoint, check_handle, commit_transaction, commit_whole, enter_nested, handle_fault, limit_fault, release_handle, release_many, release_one, release_place}
 use Rattle.session_acts.specs.Steps as acts
@@ -50,8 +50,7 @@ use Rattle.session_objects.specs.Steps.{add, add_inside}
 use Rattle.session_objects.specs.Taking.{session_added}
 use Rattle.session_objects.specs.ValueSteps.{cell_kept, given_fault, made_unless, set_inside, set_judged, set_valid, valid_made, value_invalid}
 use Rattle.session_links.specs.Linking.{change_fault, coming_along, session_by, session_changed, session_linked, session_orphaned, session_put}
-use Rattle.session_links.specs.Reading.{link_read}
-use Rattle.session_links.specs.Steps.{change_inside, change_link, read_related}
+use Rattle.session_links.specs.Steps.{change_inside, change_link}
 use Rattle.session_statements.specs.Rewriting.{session_reread}
 use Rattle.session_statements.specs.Steps as statements
 use Rattle.session_tables.specs.declared.tables.TableChange.{TableChange}
@@ -81,14 +80,6 @@ value_mapping object attr value own = unless_mapping (key_fault own.mapping (obj
 marked_mapping : (object : ObjId) (own : SessionState) → (deletion_marked object own).after.mapping ≡ own.mapping
 unfolding deletion_marked
 marked_mapping object own = unless_mapping (delete_fault (object_at own.graph object)) (with_object own.graph object (record (object_at own.graph object) { marked = true })) own
-
-cell_mapping : (object : ObjId) (attr : AttrNo) (own : SessionState) → (cell_read object attr own).after.mapping ≡ own.mapping
-unfolding cell_read
-cell_mapping object attr own = refl
-
-related_mapping : (object : ObjId) (place : RelNo) (own : SessionState) → (link_read object place own).after.mapping ≡ own.mapping
-unfolding link_read
-related_mapping object place own = refl
 
 new_mapping : (given : List (AttrNo × Value)) (own : SessionState) (r : Result (ObjId × Graph) Refusal) → (making.made_with given own r).after.mapping ≡ own.mapping
 new_mapping given own (Ok made) = refl
@@ -187,14 +178,6 @@ module _ (schema : Catalog) where
       (λ u. joined (checked (λ session. value_fault session.mapping (object_at session.graph object) attr value)) (λ u. set_fitting object attr value)
       (asked (λ session. value_fault session.mapping (object_at session.graph object) attr value))
       (λ u. joined enter (λ u. on_own (value_put object attr value)) enters (λ u. owned (value_put object attr value) (value_mapping object attr value))))))
-
-  reads : (object : ObjId) (attr : AttrNo) → Keeps P (read_cell object attr)
-  unfolding read_cell
-  reads object attr = joined enter (λ u. on_own (cell_read object attr)) enters (λ u. owned (cell_read object attr) (cell_mapping object attr))
-
-  reads_links : (object : ObjId) (place : RelNo) → Keeps P (read_related object place)
-  unfolding read_related
-  reads_links object place = joined enter (λ u. on_own (link_read object place)) enters (λ u. owned (link_read object place) (related_mapping object place))
 
   deletes : (object : ObjId) → Keeps P (delete object)
   unfolding delete
@@ -383,10 +366,8 @@ module _ (schema : Catalog) where
     call_legal (Call.Make class given) w of legal = (owned (valid_made rules class given) (valid_mapping rules class given)).kept w legal
     call_legal (Call.Add object) w of legal = (adds object).kept w legal
     call_legal (Call.Set object attr value) w of legal = (sets rules object attr value).kept w legal
-    call_legal (Call.Read object attr) w of legal = (reads object attr).kept w legal
     call_legal (Call.Delete object) w of legal = (deletes object).kept w legal
     call_legal (Call.ChangeLink owner place call) w of legal = (links owner place call).kept w legal
-    call_legal (Call.ReadLink object place) w of legal = (reads_links object place).kept w legal
     call_legal Call.Flush w of legal = flushes.kept w legal
     call_legal Call.Commit w of legal = commits.kept w legal
     call_legal Call.Rollback w of legal = rolls_back.kept w legal

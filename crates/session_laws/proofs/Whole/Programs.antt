@@ -24,19 +24,18 @@ use Rattle.keeper_core.specs.Beside.{Beside, by_own, changes, on_own, on_store}
 use Rattle.keeper_core.specs.Store.{Store}
 use Rattle.relations.specs.declared.calls.LinkCall.{LinkCall}
 use Rattle.sql_semantics.specs.Applied.{table_of}
-use Rattle.session_scopes.specs.Changes.{cell_read, deletion_marked, value_put}
+use Rattle.session_scopes.specs.Changes.{deletion_marked, value_put}
 use Rattle.session_scopes.specs.Handles.{place_of_handle}
 use Rattle.session_scopes.specs.Loads.{on_load, with_loaded}
 use Rattle.session_scopes.specs.Scoping.{session_begun, session_closed, session_committed, session_failed, session_nested, session_released, session_restored, session_rolled_back}
 use Rattle.session_scopes.specs.SessionState.{SessionState, in_transaction, with_notes, with_warnings}
 use Rattle.session_calls.specs.Parts.{World, checked, go_back, roll_back_scope}
-use Rattle.session_calls.specs.Steps.{begin_unless, close, delete, enter, go_back_if, pending_fault, read_cell, roll_back_place, rollback, rollback_handle, set_cell, set_fitting}
+use Rattle.session_calls.specs.Steps.{begin_unless, close, delete, enter, go_back_if, pending_fault, roll_back_place, rollback, rollback_handle, set_cell, set_fitting}
 use Rattle.session_acts.specs.Savepoints.{begin_savepoint, check_handle, commit_transaction, commit_whole, enter_nested, handle_fault, limit_fault, release_handle, release_many, release_place}
 use Rattle.session_objects.specs.Steps.{add}
 use Rattle.session_objects.specs.Taking.{session_added}
 use Rattle.session_links.specs.Linking.{change_fault, session_changed}
-use Rattle.session_links.specs.Reading.{link_read}
-use Rattle.session_links.specs.Steps.{change_inside, change_link, read_related}
+use Rattle.session_links.specs.Steps.{change_inside, change_link}
 use Rattle.session_laws.specs.LinkCalls.{IsLinkCall}
 use Rattle.session_laws.specs.Loads.{loading_of}
 use Rattle.session_statements.specs.Rewriting.{session_reread}
@@ -101,22 +100,6 @@ module _ (P : SessionState → Type 0) (steps : AreSteps P) where
       by : (begun : Bool) → Keeps (Holds P) (begin_unless begun)
       by true = keeps_give (Holds P) tt
       by false = joined (on_store with_notes call.begin) (λ u. changes session_begun) (noted call.begin) (λ u. changed session_begun steps.begun)
-
-  read_only : (object : ObjId) (attr : AttrNo) (own : SessionState) → P own → P (cell_read object attr own).after
-  unfolding cell_read
-  read_only object attr own has = has
-
-  pub reads : (object : ObjId) (attr : AttrNo) → Keeps (Holds P) (read_cell object attr)
-  unfolding read_cell
-  reads object attr = joined enter (λ u. on_own (cell_read object attr)) enters (λ u. keeping.owned P steps.notes (cell_read object attr) (read_only object attr))
-
-  related_only : (object : ObjId) (place : RelNo) (own : SessionState) → P own → P (link_read object place own).after
-  unfolding link_read
-  related_only object place own has = has
-
-  pub reads_links : (object : ObjId) (place : RelNo) → Keeps (Holds P) (read_related object place)
-  unfolding read_related
-  reads_links object place = joined enter (λ u. on_own (link_read object place)) enters (λ u. keeping.owned P steps.notes (link_read object place) (related_only object place))
 
   pub deletes : (object : ObjId) → Keeps (Holds P) (delete object)
   unfolding delete

@@ -14,3 +14,9 @@ returns-in-Rows-clause-stands c = λ graph drawn there. c.resolved_rows.ensures.
 
 pub returns-in-Bulk-clause-stands : goal.returns-in-Bulk-clause-stands
 returns-in-Bulk-clause-stands c = λ graph drawn there. c.resolved_statement.ensures.stands graph drawn
+
+pub returns-in-Get-clause-stands : goal.returns-in-Get-clause-stands
+returns-in-Get-clause-stands c = λ graph drawn there. c.resolved_get.ensures.stands graph drawn
+
+pub returns-in-Objects-clause-stands : goal.returns-in-Objects-clause-stands
+returns-in-Objects-clause-stands c = λ graph drawn there. c.resolved_objects.ensures.stands graph drawn

@@ -8,10 +8,10 @@ use Rattle.joined_rows.proofs.parts.part_at.Goals as goal
 pub part_from-requires : goal.part_from-requires
 part_from-requires c = record {
   target =
-      subst (λ (r : Relation). IsClass c.args.mapping.now r.target) (sym c.relation_at.ensures)
-      (c.schema.ensures.configured.related.each c.args.class c.requires.class c.args.place.0 no_relation c.requires.place).target;
+      subst (λ (r : Relation). IsClass c.args.mapping.now r.target) (sym c.relation_at.ensures.is)
+      (c.relation_at.ensures.related.each c.args.class c.requires.class c.args.place.0 no_relation c.requires.place).target;
 }
 
 pub returns : goal.returns
 returns c =
-    subst (λ (r : Relation). IfOk c.part_from.result (λ part. part ≡ part_from c.args.mapping.now c.args.place r c.args.first)) c.relation_at.ensures c.part_from.ensures
+    subst (λ (r : Relation). IfOk c.part_from.result (λ part. part ≡ part_from c.args.mapping.now c.args.place r c.args.first)) c.relation_at.ensures.is c.part_from.ensures

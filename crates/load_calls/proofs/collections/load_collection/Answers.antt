@@ -24,7 +24,7 @@ pub relation_at-relation-requires-clause-place : goal.relation_at-relation-requi
 relation_at-relation-requires-clause-place g c = subst (λ (o : Object). c.args.place.0 < length (relations_of c.args.mapping.now o.class)) (sym c.object.ensures.is) c.requires.place
 
 pub read_members-requires-clause-relation : goal.read_members-requires-clause-relation
-read_members-requires-clause-relation g c = c.relation_at-relation.ensures ∙ ap (λ (o : Object). relation_of c.args.mapping.now o.class c.args.place) c.object.ensures.is
+read_members-requires-clause-relation g c = c.relation_at-relation.ensures.is ∙ ap (λ (o : Object). relation_of c.args.mapping.now o.class c.args.place) c.object.ensures.is
 
 pub read_members-requires-clause-many : goal.read_members-requires-clause-many
 read_members-requires-clause-many g c = ap (λ (r : Relation). r.many) (read_members-requires-clause-relation g c) ∙ c.requires.many
@@ -33,7 +33,7 @@ pub returns-in_err-rows-clause-step : goal.returns-in_err-rows-clause-step
 returns-in_err-rows-clause-step g c =
     passed_on c.from_residual.ensures.1
     (members_refused g.K.Keeper.moment c.args.mapping.now c.relation_at-relation.result.now (relation_of c.args.mapping.now (object_at c.args.arena.now c.args.owner).class c.args.place) c.args.owner c.args.place _
-    (c.relation_at-relation.ensures ∙ ap (λ (o : Object). relation_of c.args.mapping.now o.class c.args.place) c.object.ensures.is) c.in_err-rows.ensures.step)
+    (c.relation_at-relation.ensures.is ∙ ap (λ (o : Object). relation_of c.args.mapping.now o.class c.args.place) c.object.ensures.is) c.in_err-rows.ensures.step)
 
 pub take_rows-requires-clause-rows : goal.take_rows-requires-clause-rows
 take_rows-requires-clause-rows g c = subst (AllByRecursion (IsRowOf c.args.mapping.now c.relation_at-relation.result.now.target)) (sym c.as_slice.ensures) c.in_ok-rows.ensures.rows
@@ -42,7 +42,7 @@ pub returns-in_err-members-clause-step : goal.returns-in_err-members-clause-step
 returns-in_err-members-clause-step g c =
     passed_on c.from_residual-in_err-members.ensures.1
     (rows_refused g.K.Keeper.moment c.args.mapping.now c.relation_at-relation.result.now (relation_of c.args.mapping.now (object_at c.args.arena.now c.args.owner).class c.args.place) c.args.owner c.args.place c.in_ok-rows.rows c.as_slice.result.now _
-    (c.relation_at-relation.ensures ∙ ap (λ (o : Object). relation_of c.args.mapping.now o.class c.args.place) c.object.ensures.is) c.as_slice.ensures c.in_ok-rows.ensures.step c.in_err-members.ensures.step)
+    (c.relation_at-relation.ensures.is ∙ ap (λ (o : Object). relation_of c.args.mapping.now o.class c.args.place) c.object.ensures.is) c.as_slice.ensures c.in_ok-rows.ensures.step c.in_err-members.ensures.step)
 
 pub returns-in_err-members-clause-stays : goal.returns-in_err-members-clause-stays
 returns-in_err-members-clause-stays g c = ready_stays (g.K.Keeper.moment c.args.keeper.now) (g.K.Keeper.moment c.read_members.new.keeper) c.from_residual-in_err-members.result c.in_ok-rows.ensures.stays
@@ -63,7 +63,7 @@ fill_collection-requires-clause-read g c =
     subst (λ (objects : List ObjId). All (λ object. is_of_root c.take_rows.new.arena.roots (root_of c.args.mapping.now (relation_of c.args.mapping.now (object_at c.take_rows.new.arena c.args.owner).class c.args.place).target) object ≡ true) objects)
     (sym c.as_slice-2.ensures)
     (subst (λ (r : Relation). All (λ object. is_of_root c.take_rows.new.arena.roots (root_of c.args.mapping.now r.target) object ≡ true) c.in_ok-members.members)
-    (c.relation_at-relation.ensures ∙ ap (λ (o : Object). relation_of c.args.mapping.now o.class c.args.place) c.object.ensures.is
+    (c.relation_at-relation.ensures.is ∙ ap (λ (o : Object). relation_of c.args.mapping.now o.class c.args.place) c.object.ensures.is
     ∙ sym (same_relation c.args.mapping.now c.args.arena.now c.take_rows.new.arena c.args.owner c.args.place c.in_ok-members.ensures.grows c.requires.owner))
     c.in_ok-members.ensures.of)
 
@@ -71,7 +71,7 @@ pub returns-clause-step : goal.returns-clause-step
 returns-clause-step g c =
     collection_loaded g.K.Keeper.moment c.args.mapping.now c.relation_at-relation.result.now (relation_of c.args.mapping.now (object_at c.args.arena.now c.args.owner).class c.args.place) c.args.owner c.args.place
     c.in_ok-rows.rows c.as_slice.result.now c.in_ok-members.members c.as_slice-2.result.now
-    (c.relation_at-relation.ensures ∙ ap (λ (o : Object). relation_of c.args.mapping.now o.class c.args.place) c.object.ensures.is) c.as_slice.ensures c.as_slice-2.ensures
+    (c.relation_at-relation.ensures.is ∙ ap (λ (o : Object). relation_of c.args.mapping.now o.class c.args.place) c.object.ensures.is) c.as_slice.ensures c.as_slice-2.ensures
     c.in_ok-rows.ensures.step c.in_ok-members.ensures.step c.in_ok-fill_collection.ensures.filled tt
 
 pub returns-in_err-fill_collection-clause-step : goal.returns-in_err-fill_collection-clause-step
@@ -79,7 +79,7 @@ returns-in_err-fill_collection-clause-step g c =
     passed_on c.from_residual-in_err-fill_collection.ensures.1
     (collection_loaded g.K.Keeper.moment c.args.mapping.now c.relation_at-relation.result.now (relation_of c.args.mapping.now (object_at c.args.arena.now c.args.owner).class c.args.place) c.args.owner c.args.place
     c.in_ok-rows.rows c.as_slice.result.now c.in_ok-members.members c.as_slice-2.result.now
-    (c.relation_at-relation.ensures ∙ ap (λ (o : Object). relation_of c.args.mapping.now o.class c.args.place) c.object.ensures.is) c.as_slice.ensures c.as_slice-2.ensures
+    (c.relation_at-relation.ensures.is ∙ ap (λ (o : Object). relation_of c.args.mapping.now o.class c.args.place) c.object.ensures.is) c.as_slice.ensures c.as_slice-2.ensures
     c.in_ok-rows.ensures.step c.in_ok-members.ensures.step tt refl)
 
 pub returns-in_err-fill_collection-clause-stays : goal.returns-in_err-fill_collection-clause-stays

@@ -25,7 +25,7 @@ returns-clause-step g c = λ graph. main_read g.K.Keeper.moment c.args.mapping.n
 pub returns-clause-rows : goal.returns-clause-rows
 returns-clause-rows g c =
     rows_told c.args.mapping.now c.args.query.now c.in_ok-wanted.wanted c.read.result c.in_ok-wanted.ensures
-    (λ rows kinds given. c.rows_have_parts.ensures c.args.mapping.now c.args.query.now c.requires.reads.more rows c.schema.ensures.configured.hierarchies c.schema.ensures.configured.related
+    (λ rows kinds given. c.rows_have_parts.ensures c.args.mapping.now c.args.query.now c.requires.reads.more rows c.read.ensures.configured.hierarchies c.read.ensures.configured.related
     c.requires.class c.requires.options c.requires.reads.items c.requires.reads.sources kinds given)
     c.read.ensures.kinds c.read.ensures.given
 

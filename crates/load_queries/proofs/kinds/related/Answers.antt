@@ -5,4 +5,4 @@ use Rattle.load_queries.proofs.kinds.related.Goals as goal
 
 pub returns-clause-related : goal.returns-clause-related
 returns-clause-related c =
-    subst (IsRelated c.args.mapping.now) (sym c.relation_at.ensures) (related_at c.args.mapping.now c.args.class c.args.place c.schema.ensures.configured.related c.requires.class c.requires.place)
+    subst (IsRelated c.args.mapping.now) (sym c.relation_at.ensures.is) (related_at c.args.mapping.now c.args.class c.args.place c.relation_at.ensures.related c.requires.class c.requires.place)

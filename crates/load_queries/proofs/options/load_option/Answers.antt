@@ -21,7 +21,7 @@ returns-in_err-owners-clause-refuses g c = passed_memory (CanRefuseRows c.args.m
 
 pub load_together-requires-clause-owners : goal.load_together-requires-clause-owners
 load_together-requires-clause-owners g c =
-    option_owners c.args.mapping.now c.args.arena.now c.args.class c.args.place c.related-relation.result.now c.in_ok-owners.owners c.as_slice.result.now c.schema.ensures.configured.hierarchies.paired c.requires.place c.related-relation.ensures.is
+    option_owners c.args.mapping.now c.args.arena.now c.args.class c.args.place c.related-relation.result.now c.in_ok-owners.owners c.as_slice.result.now c.related-relation.ensures.paired c.requires.place c.related-relation.ensures.is
     c.as_slice.ensures c.in_ok-owners.ensures.of
 
 pub returns-clause-step : goal.returns-clause-step

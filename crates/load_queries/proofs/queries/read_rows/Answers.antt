@@ -4,7 +4,7 @@ use Rattle.load_queries.proofs.queries.read_rows.Goals as goal
 
 pub returns-clause-rows : goal.returns-clause-rows
 returns-clause-rows g c =
-    query_rows c.args.mapping.now c.args.query.now.class c.args.query.now.select c.read.result c.schema.ensures.configured.hierarchies c.requires.class c.requires.reads c.read.ensures.kinds c.read.ensures.given
+    query_rows c.args.mapping.now c.args.query.now.class c.args.query.now.select c.read.result c.read.ensures.configured.hierarchies c.requires.class c.requires.reads c.read.ensures.kinds c.read.ensures.given
 
 pub returns-clause-refuses : goal.returns-clause-refuses
 returns-clause-refuses g c = refused_select c.args.mapping.now c.args.query.now.select c.read.result c.read.ensures.refuses

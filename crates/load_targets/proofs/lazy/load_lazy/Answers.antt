@@ -17,12 +17,12 @@ relation_at-relation-requires-clause-place g c = subst (λ (o : Object). c.args.
 pub returns-then-relation-clause-step : goal.returns-then-relation-clause-step
 returns-then-relation-clause-step g c =
     collection_chosen g.K.Keeper.moment c.args.mapping.now c.args.arena.now c.args.object c.args.place
-    (ap (λ (r : Relation). r.many) (sym (c.relation_at-relation.ensures ∙ ap (λ (o : Object). relation_of c.args.mapping.now o.class c.args.place) c.object.ensures.is)) ∙ c.if-relation.true) c.load_collection.ensures.step
+    (ap (λ (r : Relation). r.many) (sym (c.relation_at-relation.ensures.is ∙ ap (λ (o : Object). relation_of c.args.mapping.now o.class c.args.place) c.object.ensures.is)) ∙ c.if-relation.true) c.load_collection.ensures.step
 
 pub returns-clause-step : goal.returns-clause-step
 returns-clause-step g c =
     end_chosen g.K.Keeper.moment c.args.mapping.now c.args.arena.now c.args.object c.args.place
-    (ap (λ (r : Relation). r.many) (sym (c.relation_at-relation.ensures ∙ ap (λ (o : Object). relation_of c.args.mapping.now o.class c.args.place) c.object.ensures.is)) ∙ c.if-relation.false) c.load_target.ensures.step
+    (ap (λ (r : Relation). r.many) (sym (c.relation_at-relation.ensures.is ∙ ap (λ (o : Object). relation_of c.args.mapping.now o.class c.args.place) c.object.ensures.is)) ∙ c.if-relation.false) c.load_target.ensures.step
 
 pub returns-then-relation-clause-refuses : goal.returns-then-relation-clause-refuses
 returns-then-relation-clause-refuses g c = refused_load c.args.mapping.now c.args.object c.load_collection.result c.load_collection.ensures.refuses

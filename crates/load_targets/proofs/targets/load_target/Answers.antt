@@ -26,7 +26,7 @@ pub returns-in_err-refresh_key-clause-step : goal.returns-in_err-refresh_key-cla
 returns-in_err-refresh_key-clause-step g c =
     passed_on c.from_residual.ensures.1
     (refresh_refused g.K.Keeper.moment c.args.mapping.now c.relation_at-relation.result.now (relation_of c.args.mapping.now (object_at c.args.arena.now c.args.child).class c.args.place) c.args.child c.args.place _
-    (c.relation_at-relation.ensures ∙ ap (λ (o : Object). relation_of c.args.mapping.now o.class c.args.place) c.object.ensures.is) c.in_err-refresh_key.ensures.step)
+    (c.relation_at-relation.ensures.is ∙ ap (λ (o : Object). relation_of c.args.mapping.now o.class c.args.place) c.object.ensures.is) c.in_err-refresh_key.ensures.step)
 
 pub returns-in_err-refresh_key-clause-grows : goal.returns-in_err-refresh_key-clause-grows
 returns-in_err-refresh_key-clause-grows g c = same_grow c.args.arena.now c.refresh_key.new.arena c.in_err-refresh_key.ensures.classes
@@ -43,17 +43,17 @@ read_target-requires-clause-place g c =
 
 pub read_target-requires-clause-relation : goal.read_target-requires-clause-relation
 read_target-requires-clause-relation g c =
-    c.relation_at-relation.ensures ∙ ap (λ (o : Object). relation_of c.args.mapping.now o.class c.args.place) c.object.ensures.is
+    c.relation_at-relation.ensures.is ∙ ap (λ (o : Object). relation_of c.args.mapping.now o.class c.args.place) c.object.ensures.is
     ∙ sym (same_relation c.args.mapping.now c.args.arena.now c.refresh_key.new.arena c.args.child c.args.place (same_grow c.args.arena.now c.refresh_key.new.arena c.in_ok-refresh_key.ensures.classes) c.requires.child)
 
 pub read_target-requires-clause-one : goal.read_target-requires-clause-one
-read_target-requires-clause-one g c = ap (λ (r : Relation). r.many) (c.relation_at-relation.ensures ∙ ap (λ (o : Object). relation_of c.args.mapping.now o.class c.args.place) c.object.ensures.is) ∙ c.requires.one
+read_target-requires-clause-one g c = ap (λ (r : Relation). r.many) (c.relation_at-relation.ensures.is ∙ ap (λ (o : Object). relation_of c.args.mapping.now o.class c.args.place) c.object.ensures.is) ∙ c.requires.one
 
 pub returns-in_err-end-clause-step : goal.returns-in_err-end-clause-step
 returns-in_err-end-clause-step g c =
     passed_on c.from_residual-in_err-end.ensures.1
     (target_refused g.K.Keeper.moment c.args.mapping.now c.relation_at-relation.result.now (relation_of c.args.mapping.now (object_at c.args.arena.now c.args.child).class c.args.place) c.args.child c.args.place _
-    (c.relation_at-relation.ensures ∙ ap (λ (o : Object). relation_of c.args.mapping.now o.class c.args.place) c.object.ensures.is) c.in_ok-refresh_key.ensures.step c.in_err-end.ensures.step)
+    (c.relation_at-relation.ensures.is ∙ ap (λ (o : Object). relation_of c.args.mapping.now o.class c.args.place) c.object.ensures.is) c.in_ok-refresh_key.ensures.step c.in_err-end.ensures.step)
 
 pub returns-in_err-end-clause-grows : goal.returns-in_err-end-clause-grows
 returns-in_err-end-clause-grows g c = grows_then c.args.arena.now c.refresh_key.new.arena c.read_target.new.arena (same_grow c.args.arena.now c.refresh_key.new.arena c.in_ok-refresh_key.ensures.classes) c.in_err-end.ensures.grows
@@ -71,19 +71,19 @@ fill_end-requires-clause-one g c = ap (λ (r : Relation). r.many) (same_relation
 pub fill_end-requires-clause-end : goal.fill_end-requires-clause-end
 fill_end-requires-clause-end g c =
     subst (λ (r : Relation). end_fits c.read_target.new.arena.roots (root_of c.args.mapping.now r.target) c.in_ok-end.end ≡ true)
-    ((c.relation_at-relation.ensures ∙ ap (λ (o : Object). relation_of c.args.mapping.now o.class c.args.place) c.object.ensures.is) ∙ sym (same_relation c.args.mapping.now c.args.arena.now c.read_target.new.arena c.args.child c.args.place (grows_then c.args.arena.now c.refresh_key.new.arena c.read_target.new.arena (same_grow c.args.arena.now c.refresh_key.new.arena c.in_ok-refresh_key.ensures.classes) c.in_ok-end.ensures.grows) c.requires.child))
+    ((c.relation_at-relation.ensures.is ∙ ap (λ (o : Object). relation_of c.args.mapping.now o.class c.args.place) c.object.ensures.is) ∙ sym (same_relation c.args.mapping.now c.args.arena.now c.read_target.new.arena c.args.child c.args.place (grows_then c.args.arena.now c.refresh_key.new.arena c.read_target.new.arena (same_grow c.args.arena.now c.refresh_key.new.arena c.in_ok-refresh_key.ensures.classes) c.in_ok-end.ensures.grows) c.requires.child))
     c.in_ok-end.ensures.of
 
 pub returns-clause-step : goal.returns-clause-step
 returns-clause-step g c =
     target_loaded g.K.Keeper.moment c.args.mapping.now c.relation_at-relation.result.now (relation_of c.args.mapping.now (object_at c.args.arena.now c.args.child).class c.args.place) c.args.child c.args.place c.in_ok-end.end
-    (c.relation_at-relation.ensures ∙ ap (λ (o : Object). relation_of c.args.mapping.now o.class c.args.place) c.object.ensures.is) c.in_ok-refresh_key.ensures.step c.in_ok-end.ensures.step c.in_ok-fill_end.ensures.filled tt
+    (c.relation_at-relation.ensures.is ∙ ap (λ (o : Object). relation_of c.args.mapping.now o.class c.args.place) c.object.ensures.is) c.in_ok-refresh_key.ensures.step c.in_ok-end.ensures.step c.in_ok-fill_end.ensures.filled tt
 
 pub returns-in_err-fill_end-clause-step : goal.returns-in_err-fill_end-clause-step
 returns-in_err-fill_end-clause-step g c =
     passed_on c.from_residual-in_err-fill_end.ensures.1
     (target_loaded g.K.Keeper.moment c.args.mapping.now c.relation_at-relation.result.now (relation_of c.args.mapping.now (object_at c.args.arena.now c.args.child).class c.args.place) c.args.child c.args.place c.in_ok-end.end
-    (c.relation_at-relation.ensures ∙ ap (λ (o : Object). relation_of c.args.mapping.now o.class c.args.place) c.object.ensures.is) c.in_ok-refresh_key.ensures.step c.in_ok-end.ensures.step tt refl)
+    (c.relation_at-relation.ensures.is ∙ ap (λ (o : Object). relation_of c.args.mapping.now o.class c.args.place) c.object.ensures.is) c.in_ok-refresh_key.ensures.step c.in_ok-end.ensures.step tt refl)
 
 pub returns-clause-stays : goal.returns-clause-stays
 returns-clause-stays g c = still_then (g.K.Keeper.moment c.args.keeper.now) (g.K.Keeper.moment c.refresh_key.new.keeper) (g.K.Keeper.moment c.read_target.new.keeper) c.in_ok-refresh_key.ensures.stays c.in_ok-end.ensures.stays

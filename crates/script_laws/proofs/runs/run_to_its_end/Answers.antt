@@ -9,5 +9,5 @@ returns g c = record {
       run_ends options (rules_of c.args.validators.now)
       (moment_seen (g.S.Source.left c.args.source.now) (g.S.Source.faults c.args.source.now) (g.O.Sink.written c.args.sink.now) (g.O.Sink.faults c.args.sink.now) (g.K.Keeper.moment c.args.keeper.now)) c.run.result
       (moment_seen (g.S.Source.left c.run.new.source) (g.S.Source.faults c.run.new.source) (g.O.Sink.written c.run.new.sink) (g.O.Sink.faults c.run.new.sink) (g.K.Keeper.moment c.run.new.keeper))
-      (c.run.ensures.reference options asked memory) c.run.ensures.faults;
+      memory (c.run.ensures.reference options asked) c.run.ensures.faults;
 }

@@ -13,6 +13,6 @@ relation_at-requires-clause-place c =
 pub returns : goal.returns
 returns c =
     ap (λ (r : Relation). r.many)
-    (c.relation_at.ensures
+    (c.relation_at.ensures.is
     ∙ ap (λ (m : Mapped). relation_of m c.object.result.now.class c.args.place) c.mapping.ensures
     ∙ ap (λ (o : Object). relation_of c.args.session.now.mapping o.class c.args.place) c.object.ensures.is)

@@ -22,9 +22,9 @@ returns-clause-call g c = then_call (λ u. set_inside c.args.object c.args.attr 
 
 pub returns-in_err-enter-clause-refused : goal.returns-in_err-enter-clause-refused
 returns-in_err-enter-clause-refused g c =
-    passed_on (λ e. IsRefused (pending_fault c.args.session.now) (judged_fault c.args.object c.args.attr c.args.value c.args.session.now) c.args.session.now e c.enter.new.session) c.from_residual.result c.from_residual.ensures.1
+    passed_on (λ e. IsRefused (pending_fault c.args.session.now) (judged_fault c.args.object c.args.attr c.args.session.now) c.args.session.now e c.enter.new.session) c.from_residual.result c.from_residual.ensures.1
     (refused_entering c.in_err-enter.ensures.refused)
 
 pub returns-clause-refused : goal.returns-clause-refused
 returns-clause-refused g c =
-    judged_refused c.args.object c.args.attr c.args.value c.args.session.now c.enter.new.session c.set_inside.new.session c.set_inside.result c.in_ok-enter.ensures.entered c.in_ok-enter.ensures.well c.in_ok-enter.ensures.inside c.set_inside.ensures.refused
+    judged_refused c.args.object c.args.attr c.args.value c.args.session.now c.enter.new.session c.set_inside.new.session c.set_inside.result c.requires.fits c.in_ok-enter.ensures.entered c.in_ok-enter.ensures.well c.in_ok-enter.ensures.inside c.set_inside.ensures.refused

@@ -6,8 +6,16 @@ use Rattle.keeper_core.specs.Alone.{IsOwn}
 use Rattle.session_calls.specs.Refusals.{Before, Early, IsRefused}
 use Rattle.session_calls.specs.Steps.{pending_fault}
 use Rattle.session_objects.specs.ValueSteps.{judged_fault}
-use Rattle.session_objects.proofs.Judged.{full_call, sets, sets_not}
+use Rattle.session_objects.proofs.Judged.{full_call, of_kind, sets, sets_not}
 use Rattle.session_objects.proofs.setting.set_valid.Goals as goal
+
+pub set_judged-requires : goal.set_judged-requires
+set_judged-requires g c = record {
+  object = c.requires.object;
+  attr = c.requires.attr;
+  in_step = c.requires.in_step;
+  fits = of_kind (rules_of c.args.hooks.now) c.args.object c.args.attr c.args.value c.args.session.now (sym c.in-Ok-None.field-0-is ∙ c.in-Ok-None.ensures.fault);
+}
 
 pub returns-in-Ok-None-clause-call : goal.returns-in-Ok-None-clause-call
 returns-in-Ok-None-clause-call g c =
@@ -25,7 +33,7 @@ pub returns-in-Ok-None-clause-refused : goal.returns-in-Ok-None-clause-refused
 returns-in-Ok-None-clause-refused g c =
     subst
     (λ (fault : Option Refusal). IfErr c.set_judged.result
-    (λ e. IsRefused (either_fault fault (pending_fault c.args.session.now)) (judged_fault c.args.object c.args.attr c.args.value c.args.session.now) c.args.session.now e c.set_judged.new.session))
+    (λ e. IsRefused (either_fault fault (pending_fault c.args.session.now)) (judged_fault c.args.object c.args.attr c.args.session.now) c.args.session.now e c.set_judged.new.session))
     (sym c.in-Ok-None.field-0-is ∙ c.in-Ok-None.ensures.fault) c.set_judged.ensures.refused
 
 pub returns-in-Ok-Some-clause-refused : goal.returns-in-Ok-Some-clause-refused

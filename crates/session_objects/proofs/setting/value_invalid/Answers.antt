@@ -1,13 +1,15 @@
-use Rattle.std.proofs.Common.{◌≡◌, IfOk, subst}
+use Rattle.std.proofs.Common.{◌≡◌, Option, IfOk, ap, subst}
+use Rattle.base_core.specs.declared.refusal.Refusal.{Refusal}
 use Rattle.class_types.specs.Shown.{rules_of}
-use Rattle.class_mapping.specs.Mapped.{Mapped}
-use Rattle.object_arena.specs.declared.object.Object.{Object}
-use Rattle.object_arena.specs.Graph.{object_at}
-use Rattle.session_objects.specs.Judging.{invalid_fault}
+use Rattle.object_arena.specs.Graph.{either_fault}
+use Rattle.session_objects.specs.ValueSteps.{value_untaken}
 use Rattle.session_objects.proofs.setting.value_invalid.Goals as goal
 
-pub returns-clause-fault : goal.returns-clause-fault
-returns-clause-fault g c =
-    let rules = rules_of c.args.hooks.now in
-    subst (λ (m : Mapped). IfOk c.invalid_fault.result (λ fault. fault ≡ invalid_fault rules m (object_at c.args.session.now.graph c.args.object).class c.args.attr c.args.value.now)) c.mapping.ensures
-    (subst (λ (o : Object). IfOk c.invalid_fault.result (λ fault. fault ≡ invalid_fault rules c.mapping.result.now o.class c.args.attr c.args.value.now)) c.object.ensures.is c.invalid_fault.ensures.fault)
+pub returns-in-Some-clause-fault : goal.returns-in-Some-clause-fault
+returns-in-Some-clause-fault g c =
+    ap (λ (fault : Option Refusal). either_fault fault (value_untaken (rules_of c.args.hooks.now) c.args.object c.args.attr c.args.value.now c.args.session.now)) c.in-Some.ensures.fault
+
+pub returns-in-None-clause-fault : goal.returns-in-None-clause-fault
+returns-in-None-clause-fault g c =
+    let untaken : Option Refusal = value_untaken (rules_of c.args.hooks.now) c.args.object c.args.attr c.args.value.now c.args.session.now in
+    subst (λ (first : Option Refusal). IfOk c.value_untaken.result (λ fault. fault ≡ either_fault first untaken)) c.in-None.ensures.fault c.value_untaken.ensures.fault

@@ -5,13 +5,15 @@ use Rattle.base_core.specs.declared.value.Value.{Value}
 use Rattle.class_types.specs.Shown.{rules_of}
 use Rattle.class_mapping.specs.Mapped.{IsAttribute}
 use Rattle.expr_types.specs.declared.select.Bulk.{Bulk}
+use Rattle.expr_types.specs.declared.select.ObjectQuery.{ObjectQuery}
 use Rattle.expr_types.specs.declared.select.Select.{Select}
 use Rattle.sql_semantics.specs.Plain.{IsPlainSelect}
+use Rattle.load_queries.specs.Selectin.{IsSelectable}
 use Rattle.session_acts.specs.Steps as acts
 use Rattle.command_resolve.specs.declared.answer.Answer.TheVariants as answer
 use Rattle.command_resolve.specs.declared.resolved.Resolved.{Resolved}
 use Rattle.command_resolve.specs.declared.resolved.Resolved.TheVariants as resolved
-use Rattle.session_perform.specs.Performing.{IsPerformed, IsReady, make, same, state_of, telling}
+use Rattle.session_perform.specs.Performing.{IsPerformed, IsReady, make, same, select_objects, state_of, telling}
 use Rattle.session_perform.proofs.Performed.{as_it_stands, at_case, performs, stands}
 use Rattle.session_perform.specs.Refused.{IsRefusedLine}
 use Rattle.session_perform.proofs.Refusing.{told_case, why_case}
@@ -121,12 +123,12 @@ returns-in-Close-clause-performed g c = at_case g.K.Keeper.moment (rules_of c.ar
 pub rows-requires : goal.rows-requires
 rows-requires g c =
     let ready = subst (λ (line : Resolved). IsReady c.args.session.now line) c.in-Rows.is c.requires.ready in
-    record { in_step = c.requires.in_step; plain = subst (λ (select : Select). IsPlainSelect c.args.session.now.mapping.schema select) (sym c.get.ensures) ready }
+    record { in_step = c.requires.in_step; plain = subst (λ (select : Select). IsPlainSelect c.args.session.now.mapping.schema select) (sym c.get-in-Rows.ensures) ready }
 
 pub returns-in-Rows-clause-performed : goal.returns-in-Rows-clause-performed
 returns-in-Rows-clause-performed g c =
     at_case g.K.Keeper.moment (rules_of c.args.hooks.now) c.in-Rows.is
-    (subst (λ (select : Select). IsPerformed g.K.Keeper.moment (telling answer.Rows (acts.rows select)) (c.args.session.now, c.args.keeper.now) c.rows.result (c.rows.new.session, c.rows.new.keeper)) c.get.ensures c.rows.ensures.performed)
+    (subst (λ (select : Select). IsPerformed g.K.Keeper.moment (telling answer.Rows (acts.rows select)) (c.args.session.now, c.args.keeper.now) c.rows.result (c.rows.new.session, c.rows.new.keeper)) c.get-in-Rows.ensures c.rows.ensures.performed)
 
 pub bulk-requires : goal.bulk-requires
 bulk-requires g c =
@@ -157,7 +159,7 @@ returns-in-SetCell-clause-refused g c =
 
 pub returns-in-ChangeLink-clause-refused : goal.returns-in-ChangeLink-clause-refused
 returns-in-ChangeLink-clause-refused g c =
-    told_case (rules_of c.args.hooks.now) c.args.resolved _ c.args.session.now c.change_link.new.session (g.K.Keeper.moment c.args.keeper.now) (g.K.Keeper.moment c.change_link.new.keeper) c.change_link.result c.nothing_told-in-ChangeLink.result c.in-ChangeLink.is c.nothing_told-in-ChangeLink.ensures c.change_link.ensures.refused
+    told_case (rules_of c.args.hooks.now) c.args.resolved _ c.args.session.now c.change_link.new.session (g.K.Keeper.moment c.args.keeper.now) (g.K.Keeper.moment c.change_link.new.keeper) c.change_link.result c.nothing_told-in-ChangeLink.result c.in-ChangeLink.is c.nothing_told-in-ChangeLink.ensures (c.change_link.ensures.refused (rules_of c.args.hooks.now))
 
 pub returns-in-Add-clause-refused : goal.returns-in-Add-clause-refused
 returns-in-Add-clause-refused g c =
@@ -209,10 +211,62 @@ pub returns-in-Rows-clause-refused : goal.returns-in-Rows-clause-refused
 returns-in-Rows-clause-refused g c =
     let rules = rules_of c.args.hooks.now in
     why_case rules c.args.resolved _ c.args.session.now c.rows.new.session (g.K.Keeper.moment c.args.keeper.now) (g.K.Keeper.moment c.rows.new.keeper) c.rows.result c.in-Rows.is
-    (subst (λ (select : Select). IfErr c.rows.result (λ e. IsRefusedLine rules (resolved.Rows select) c.args.session.now (g.K.Keeper.moment c.args.keeper.now) e c.rows.new.session (g.K.Keeper.moment c.rows.new.keeper))) c.get.ensures (c.rows.ensures.refused rules))
+    (subst (λ (select : Select). IfErr c.rows.result (λ e. IsRefusedLine rules (resolved.Rows select) c.args.session.now (g.K.Keeper.moment c.args.keeper.now) e c.rows.new.session (g.K.Keeper.moment c.rows.new.keeper))) c.get-in-Rows.ensures (c.rows.ensures.refused rules))
 
 pub returns-in-Bulk-clause-refused : goal.returns-in-Bulk-clause-refused
 returns-in-Bulk-clause-refused g c =
     let rules = rules_of c.args.hooks.now in
     why_case rules c.args.resolved _ c.args.session.now c.bulk.new.session (g.K.Keeper.moment c.args.keeper.now) (g.K.Keeper.moment c.bulk.new.keeper) c.bulk.result c.in-Bulk.is
     (subst (λ (statement : Bulk). IfErr c.bulk.result (λ e. IsRefusedLine rules (resolved.Bulk statement) c.args.session.now (g.K.Keeper.moment c.args.keeper.now) e c.bulk.new.session (g.K.Keeper.moment c.bulk.new.keeper))) c.get-in-Bulk.ensures (c.bulk.ensures.refused rules))
+
+pub get-requires : goal.get-requires
+get-requires g c =
+    let ready = subst (λ (line : Resolved). IsReady c.args.session.now line) c.in-Get.is c.requires.ready in
+    record { in_step = c.requires.in_step; class = ready.0; key = ready.1 }
+
+pub returns-in-Get-clause-performed : goal.returns-in-Get-clause-performed
+returns-in-Get-clause-performed g c = at_case g.K.Keeper.moment (rules_of c.args.hooks.now) c.in-Get.is c.get.ensures.performed
+
+pub returns-in-Get-clause-refused : goal.returns-in-Get-clause-refused
+returns-in-Get-clause-refused g c =
+    why_case (rules_of c.args.hooks.now) c.args.resolved _ c.args.session.now c.get.new.session (g.K.Keeper.moment c.args.keeper.now) (g.K.Keeper.moment c.get.new.keeper) c.get.result c.in-Get.is (c.get.ensures.refused (rules_of c.args.hooks.now))
+
+pub select_objects-requires : goal.select_objects-requires
+select_objects-requires g c =
+    let ready = subst (λ (line : Resolved). IsReady c.args.session.now line) c.in-Objects.is c.requires.ready in
+    record { in_step = c.requires.in_step; query = subst (λ (query : ObjectQuery). IsSelectable c.args.session.now.mapping query) (sym c.get-in-Objects.ensures) ready.0 }
+
+pub returns-in-Objects-clause-performed : goal.returns-in-Objects-clause-performed
+returns-in-Objects-clause-performed g c =
+    at_case g.K.Keeper.moment (rules_of c.args.hooks.now) c.in-Objects.is
+    (subst (λ (query : ObjectQuery). IsPerformed g.K.Keeper.moment (select_objects c.in-Objects.name query) (c.args.session.now, c.args.keeper.now) c.select_objects.result (c.select_objects.new.session, c.select_objects.new.keeper)) c.get-in-Objects.ensures c.select_objects.ensures.performed)
+
+pub returns-in-Objects-clause-refused : goal.returns-in-Objects-clause-refused
+returns-in-Objects-clause-refused g c =
+    let rules = rules_of c.args.hooks.now in
+    why_case rules c.args.resolved _ c.args.session.now c.select_objects.new.session (g.K.Keeper.moment c.args.keeper.now) (g.K.Keeper.moment c.select_objects.new.keeper) c.select_objects.result c.in-Objects.is
+    (subst (λ (query : ObjectQuery). IfErr c.select_objects.result (λ e. IsRefusedLine rules (resolved.Objects c.in-Objects.name query) c.args.session.now (g.K.Keeper.moment c.args.keeper.now) e c.select_objects.new.session (g.K.Keeper.moment c.select_objects.new.keeper))) c.get-in-Objects.ensures (c.select_objects.ensures.refused rules))
+
+pub bind_related-requires : goal.bind_related-requires
+bind_related-requires g c =
+    let ready = subst (λ (line : Resolved). IsReady c.args.session.now line) c.in-Related.is c.requires.ready in
+    record { in_step = c.requires.in_step; object = ready.0; relation = ready.1 }
+
+pub returns-in-Related-clause-performed : goal.returns-in-Related-clause-performed
+returns-in-Related-clause-performed g c = at_case g.K.Keeper.moment (rules_of c.args.hooks.now) c.in-Related.is c.bind_related.ensures.performed
+
+pub returns-in-Related-clause-refused : goal.returns-in-Related-clause-refused
+returns-in-Related-clause-refused g c =
+    why_case (rules_of c.args.hooks.now) c.args.resolved _ c.args.session.now c.bind_related.new.session (g.K.Keeper.moment c.args.keeper.now) (g.K.Keeper.moment c.bind_related.new.keeper) c.bind_related.result c.in-Related.is (c.bind_related.ensures.refused (rules_of c.args.hooks.now))
+
+pub refresh-requires : goal.refresh-requires
+refresh-requires g c =
+    let ready = subst (λ (line : Resolved). IsReady c.args.session.now line) c.in-Refresh.is c.requires.ready in
+    record { in_step = c.requires.in_step; object = ready }
+
+pub returns-in-Refresh-clause-performed : goal.returns-in-Refresh-clause-performed
+returns-in-Refresh-clause-performed g c = at_case g.K.Keeper.moment (rules_of c.args.hooks.now) c.in-Refresh.is (performs g.K.Keeper.moment c.nothing_told-in-Refresh.ensures c.refresh.ensures.call)
+
+pub returns-in-Refresh-clause-refused : goal.returns-in-Refresh-clause-refused
+returns-in-Refresh-clause-refused g c =
+    told_case (rules_of c.args.hooks.now) c.args.resolved _ c.args.session.now c.refresh.new.session (g.K.Keeper.moment c.args.keeper.now) (g.K.Keeper.moment c.refresh.new.keeper) c.refresh.result c.nothing_told-in-Refresh.result c.in-Refresh.is c.nothing_told-in-Refresh.ensures c.refresh.ensures.refused

@@ -2,9 +2,12 @@ use Rattle.std.proofs.Common.{List, Err, ap, refl, sym, ◌∙◌, subst}
 use Rattle.base_core.specs.declared.ids.TableId.{TableId}
 use Rattle.base_core.specs.declared.refusal.Refusal.TheVariants.{StaleDataError}
 use Rattle.base_core.specs.declared.value.Value.{Value}
+use Rattle.schema_core.specs.declared.statement.RowStmt.{RowStmt}
+use Rattle.schema_core.specs.WellFormed.{AreKeysFor}
 use Rattle.flush_plan.specs.Flushing.{keys_then}
 use Rattle.session_calls.specs.Calling.{IsSessionCall}
 use Rattle.session_calls.proofs.Joining.{passed_call}
+use Rattle.plan_statements.specs.Known.{keys_at}
 use Rattle.session_statements.specs.Run.{send_one}
 use Rattle.session_statements.proofs.Causes.{stale_cause}
 use Rattle.session_statements.proofs.OneStatement.{keys_answered, row_missing, write_ran_out, write_refused}
@@ -28,8 +31,14 @@ returns-then-branch-clause-call g c = λ changes keys known stale are sendable s
     (sym (c.in_ok-is_row_missing.ensures c.args.session.now.mapping.schema changes stale) ∙ c.if-branch.true))
 
 pub returns-then-branch-clause-cause : goal.returns-then-branch-clause-cause
-returns-then-branch-clause-cause g c = λ changes stale.
-    stale_cause c.args.session.now.mapping.schema changes c.args.planned.now c.in_ok-answered.answered (g.K.Keeper.moment c.args.keeper.now) (g.K.Keeper.moment c.write_noted.new.keeper) (StaleDataError c.table_of.result)
+returns-then-branch-clause-cause g c = λ changes known stale sendable sent.
+    stale_cause c.args.session.now.mapping.schema changes c.args.planned.now c.in_ok-answered.answered
+    (record {
+      keys = keys_at known;
+      fits = sendable;
+      shape = subst (λ (s : RowStmt). AreKeysFor c.args.session.now.mapping.schema s c.in_ok-answered.answered) sent c.in_ok-answered.ensures.keys;
+    })
+    (g.K.Keeper.moment c.args.keeper.now) (g.K.Keeper.moment c.write_noted.new.keeper) (StaleDataError c.table_of.result)
     (sym (c.in_ok-is_row_missing.ensures c.args.session.now.mapping.schema changes stale) ∙ c.if-branch.true) (ap (λ (t : TableId). StaleDataError t) c.table_of.ensures)
 
 pub returns-clause-call : goal.returns-clause-call

@@ -31,3 +31,14 @@ returns-in-Some-clause-call g c = λ keys are.
     (some_same (is_sendable c.schema-schema.result.now c.args.changes.now (keys_at c.args.known.now) c.args.planned.now) c.in-Some.statement (statement_sent c.schema-schema.result.now c.args.changes.now (keys_at c.args.known.now) c.args.planned.now)
     (sym c.in-Some.is ∙ c.in_ok-fitting_statement.ensures.found)
     ∙ ap (λ (s : Catalog). statement_sent s c.args.changes.now (keys_at c.args.known.now) c.args.planned.now) same)
+
+pub returns-in-Some-clause-cause : goal.returns-in-Some-clause-cause
+returns-in-Some-clause-cause g c =
+    let same : c.schema-schema.result.now ≡ c.args.session.now.mapping.schema = c.schema-schema.ensures.schema ∙ ap (λ (m : Mapped). m.schema) c.mapping.ensures in
+    c.send_fitting.ensures.cause c.args.changes.now c.args.known.now c.requires.places
+    (ap (λ (s : Catalog). is_sendable s c.args.changes.now (keys_at c.args.known.now) c.args.planned.now) (sym same)
+    ∙ some_if (is_sendable c.schema-schema.result.now c.args.changes.now (keys_at c.args.known.now) c.args.planned.now) c.in-Some.statement (statement_sent c.schema-schema.result.now c.args.changes.now (keys_at c.args.known.now) c.args.planned.now)
+    (sym c.in-Some.is ∙ c.in_ok-fitting_statement.ensures.found))
+    (some_same (is_sendable c.schema-schema.result.now c.args.changes.now (keys_at c.args.known.now) c.args.planned.now) c.in-Some.statement (statement_sent c.schema-schema.result.now c.args.changes.now (keys_at c.args.known.now) c.args.planned.now)
+    (sym c.in-Some.is ∙ c.in_ok-fitting_statement.ensures.found)
+    ∙ ap (λ (s : Catalog). statement_sent s c.args.changes.now (keys_at c.args.known.now) c.args.planned.now) same)

@@ -5,7 +5,7 @@ use Rattle.sqla_shell.proofs.script.write_all.Goals as goal
 
 -- src/script.rt:29:20
 pub returns-in_err-written-clause-bytes : goal.returns-in_err-written-clause-bytes
-returns-in_err-written-clause-bytes g c = prefix_written (g.O.Sink.written c.args.sink.now) (g.O.Sink.written c.loop-written.sink) (g.O.Sink.written c.write.new.self) c.args.piece.now c.loop-written.written c.from_residual.result c.from_residual.ensures.0 c.loop-written.invariant.prefix c.in_err-written.ensures.bytes
+returns-in_err-written-clause-bytes g c = prefix_written (g.O.Sink.written c.args.sink.now) (g.O.Sink.written c.loop-written.sink) (g.O.Sink.written c.write.new.self) c.args.piece.now c.loop-written.written c.from_residual.result (omega (arith, c.loop-written-test.true)) c.from_residual.ensures.0 c.loop-written.invariant.prefix c.in_err-written.ensures.bytes
 
 -- src/script.rt:22:1
 pub returns-clause-bytes : goal.returns-clause-bytes

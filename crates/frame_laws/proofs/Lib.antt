@@ -1,0 +1,5 @@
+pub mod Beginning
+pub mod Ending
+pub mod Restoring
+pub mod Touching
+pub mod Traces

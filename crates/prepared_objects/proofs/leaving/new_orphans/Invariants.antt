@@ -1,0 +1,8 @@
+use Rattle.std.proofs.Common.{◌≡◌, take}
+use Rattle.std.specs.List.{filter}
+use Rattle.object_arena.specs.Graph.{object_at}
+use Rattle.prepared_objects.specs.Leaving.{is_new_orphan}
+use Rattle.prepared_objects.proofs.leaving.new_orphans.Given as goal
+
+abbrev pub invariant-loop-object : goal.invariant-loop-object
+invariant-loop-object l = l.starts ≡ filter (λ object. is_new_orphan (object_at l.arena object)) (take l.object-index l.object-items)

@@ -1,0 +1,7 @@
+use Rattle.std.proofs.Common.{◌≡◌, ◌++◌, take}
+use Rattle.std.specs.List.{filter}
+use Rattle.object_arena.specs.Graph.{is_pending, object_at}
+use Rattle.prepared_objects.proofs.leaving.push_pending.Given as goal
+
+abbrev pub invariant-loop-object : goal.invariant-loop-object
+invariant-loop-object l = l.out ≡ l.fn.out ++ filter (λ object. is_pending (object_at l.arena object).state) (take l.object-index l.objects)

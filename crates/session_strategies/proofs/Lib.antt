@@ -1,0 +1,10 @@
+pub mod Programs
+pub mod Loading
+pub mod Asking
+pub mod Kept
+pub mod Fresh
+pub mod Alike
+pub mod Laws
+pub mod Again
+pub mod Loaded
+pub mod Reading

@@ -1,0 +1,4 @@
+pub mod Unwritten
+pub mod Asked
+pub mod Statements
+pub mod Strategies
