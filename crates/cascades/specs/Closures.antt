@@ -1,5 +1,5 @@
 -- The closures of an object: to which objects a call goes on along relationships that have its flag.
-use Rattle.std.specs.Prelude.{◌≡◌, Bool, true, false, not, ◌&&◌, ◌||◌, List, [], ◌∷◌, ◌++◌, length, map, ◌==◌}
+use Rattle.std.specs.Prelude.{◌≡◌, Bool, true, not, ◌&&◌, ◌||◌, List, [], ◌∷◌, ◌++◌, length, map, ◌==◌}
 use Rattle.std.specs.List.{All, filter, list_all, list_any, range_with_len}
 use Rattle.base_core.specs.declared.ids.ObjId.{ObjId}
 use Rattle.base_core.specs.Ascending.{IsAscending}

@@ -1,6 +1,7 @@
 pub mod ClassLemmas
 pub mod Keys
 pub mod MemberLemmas
+pub mod NoArithmetic
 pub mod PairLemmas
 pub mod Pairs
 pub mod Placed

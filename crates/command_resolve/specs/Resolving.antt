@@ -124,6 +124,14 @@ resolved_rows mapped written = resolved_select mapped.schema written >>= λ sele
 abbrev pub resolved_statement : Mapped → SynBulk → Checked Resolved
 resolved_statement mapped written = resolved_bulk mapped.schema written >>= λ statement. Ok (resolved.Bulk statement)
 
+-- what the line asks for that changes an attribute or a link of an object
+abbrev pub resolved_change : Mapped → Bindings → Command → Checked Resolved
+resolved_change mapped names (line.SetValue term member value) = resolved_set mapped names term member value
+resolved_change mapped names (line.SetTerm term member other) = resolved_set_one mapped names term member other
+resolved_change mapped names (line.Append term member other) = resolved_append mapped names term member other
+resolved_change mapped names (line.Remove term member other) = resolved_remove mapped names term member other
+resolved_change mapped names other = Err NotBuilt
+
 -- what the line asks for; its names are read in the order of the line, and kinds of values behind all of them
 abbrev pub resolve : Mapped → Bindings → Command → Checked Resolved
 resolve mapped names line.CreateAll = Ok resolved.CreateAll
@@ -134,10 +142,6 @@ resolve mapped names (line.Get name class key) = resolved_get mapped name class 
 resolve mapped names (line.Objects name query) = resolved_objects mapped name query
 resolve mapped names (line.Related name term member) = resolved_related mapped names name term member
 resolve mapped names (line.BeginNested name) = Ok (resolved.BeginNested name)
-resolve mapped names (line.SetValue term member value) = resolved_set mapped names term member value
-resolve mapped names (line.SetTerm term member other) = resolved_set_one mapped names term member other
-resolve mapped names (line.Append term member other) = resolved_append mapped names term member other
-resolve mapped names (line.Remove term member other) = resolved_remove mapped names term member other
 resolve mapped names (line.Add term) = id_of_term names term >>= λ object. Ok (resolved.Add object)
 resolve mapped names (line.Delete term) = id_of_term names term >>= λ object. Ok (resolved.Delete object)
 resolve mapped names (line.Refresh term) = id_of_term names term >>= λ object. Ok (resolved.Refresh object)
@@ -151,4 +155,4 @@ resolve mapped names (line.Rollback name) = handle_if_named names name >>= λ nu
 resolve mapped names line.Close = Ok resolved.Close
 resolve mapped names (line.Rows written) = resolved_rows mapped written
 resolve mapped names (line.Bulk written) = resolved_statement mapped written
-resolve mapped names other = Err NotBuilt
+resolve mapped names other = resolved_change mapped names other

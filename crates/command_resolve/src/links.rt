@@ -56,11 +56,7 @@ pub(crate) fn resolved_set_one(
         → IfOk result (IsResolved mapping.now graph drawn) }
 {
     let (owner, relation, parent) = ends_of(mapping, names, false, term, member, other)?;
-    Ok(Resolved::ChangeLink {
-        owner,
-        relation,
-        call: LinkCall::Set(Some(parent)),
-    })
+    Ok(Resolved::ChangeLink(owner, relation, LinkCall::Set(Some(parent))))
 }
 
 /// An object is to come into a collection.
@@ -79,11 +75,7 @@ pub(crate) fn resolved_append(
         → IfOk result (IsResolved mapping.now graph drawn) }
 {
     let (owner, relation, member) = ends_of(mapping, names, true, term, member, other)?;
-    Ok(Resolved::ChangeLink {
-        owner,
-        relation,
-        call: LinkCall::Append(member),
-    })
+    Ok(Resolved::ChangeLink(owner, relation, LinkCall::Append(member)))
 }
 
 /// An object is to leave a collection.
@@ -102,9 +94,5 @@ pub(crate) fn resolved_remove(
         → IfOk result (IsResolved mapping.now graph drawn) }
 {
     let (owner, relation, member) = ends_of(mapping, names, true, term, member, other)?;
-    Ok(Resolved::ChangeLink {
-        owner,
-        relation,
-        call: LinkCall::Remove(member),
-    })
+    Ok(Resolved::ChangeLink(owner, relation, LinkCall::Remove(member)))
 }

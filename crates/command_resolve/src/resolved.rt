@@ -39,18 +39,10 @@ pub enum Resolved {
     },
     /// The name to which the new savepoint is to be bound.
     BeginNested(Name),
-    SetCell {
-        object: ObjId,
-        attr: AttrNo,
-        /// NULL or of the attribute's kind.
-        value: Value,
-    },
+    /// An attribute of an object is to hold a value, which is NULL or of its kind.
+    SetCell(ObjId, AttrNo, Value),
     /// A relationship of an object is to change.
-    ChangeLink {
-        owner: ObjId,
-        relation: RelNo,
-        call: LinkCall,
-    },
+    ChangeLink(ObjId, RelNo, LinkCall),
     Add(ObjId),
     Delete(ObjId),
     /// An object is to be read anew.

@@ -95,11 +95,7 @@ fn set_cell(
 {
     match value_fault(mapping, class, attr, value) {
         Some(fault) => Err(fault),
-        None => Ok(Resolved::SetCell {
-            object,
-            attr,
-            value: value.copied()?,
-        }),
+        None => Ok(Resolved::SetCell(object, attr, value.copied()?)),
     }
 }
 
@@ -114,11 +110,42 @@ fn set_none(object: ObjId, relation: RelNo, value: &Value) -> Result<Resolved, R
     if kind_of_value(value).is_some() {
         return Err(wrong_kind());
     }
-    Ok(Resolved::ChangeLink {
-        owner: object,
-        relation,
-        call: LinkCall::Set(None),
-    })
+    Ok(Resolved::ChangeLink(object, relation, LinkCall::Set(None)))
+}
+
+/// What a line asks for that changes an attribute or a link of an object.
+#[tactic(auto, using(crate::proofs::Causes::causes))]
+fn resolved_change(mapping: &Mapping, names: &Names, command: &Command) -> Result<Resolved, Refusal>
+    requires declared { AreOfDeclared mapping.now names.now }
+    ensures line { Gives (λ line. line) result
+        (spec.resolved_change mapping.now names.now command.now) }
+    ensures cause { IfErr result IsOfResolving }
+    ensures stands { (graph : Graph) → (drawn : ℕ) → AreThere graph drawn names.now
+        → IfOk result (IsResolved mapping.now graph drawn) }
+{
+    match command {
+        Command::SetValue {
+            term,
+            member,
+            value,
+        } => resolved_set(mapping, names, term, member, value),
+        Command::SetTerm {
+            term,
+            member,
+            other,
+        } => resolved_set_one(mapping, names, term, member, other),
+        Command::Append {
+            term,
+            member,
+            other,
+        } => resolved_append(mapping, names, term, member, other),
+        Command::Remove {
+            term,
+            member,
+            other,
+        } => resolved_remove(mapping, names, term, member, other),
+        _ => Err(Refusal::NotBuilt),
+    }
 }
 
 /// An attribute or a link of an object that is shown.
@@ -227,26 +254,6 @@ pub fn resolve(
             relation,
         } => resolved_related(mapping, names, name, term, relation),
         Command::BeginNested(name) => Ok(Resolved::BeginNested(name.copied()?)),
-        Command::SetValue {
-            term,
-            member,
-            value,
-        } => resolved_set(mapping, names, term, member, value),
-        Command::SetTerm {
-            term,
-            member,
-            other,
-        } => resolved_set_one(mapping, names, term, member, other),
-        Command::Append {
-            term,
-            member,
-            other,
-        } => resolved_append(mapping, names, term, member, other),
-        Command::Remove {
-            term,
-            member,
-            other,
-        } => resolved_remove(mapping, names, term, member, other),
         Command::Add(term) => Ok(Resolved::Add(id_of_term(names, term)?)),
         Command::Delete(term) => Ok(Resolved::Delete(id_of_term(names, term)?)),
         Command::Refresh(term) => Ok(Resolved::Refresh(id_of_term(names, term)?)),
@@ -260,6 +267,10 @@ pub fn resolve(
         Command::Close => Ok(Resolved::Close),
         Command::Rows(written) => resolved_rows(alloc, mapping, written),
         Command::Bulk(written) => resolved_statement(alloc, mapping, written),
+        Command::SetValue { .. }
+        | Command::SetTerm { .. }
+        | Command::Append { .. }
+        | Command::Remove { .. } => resolved_change(mapping, names, command),
         _ => Err(Refusal::NotBuilt),
     }
 }

@@ -7,7 +7,7 @@ use Rattle.savepoints.specs.declared.traces.Trace.{Trace}
 use Rattle.savepoints.specs.Scopes.{outward, trace_in}
 use Rattle.frame_laws.specs.Copies.{Copy, Places, either, ended, no_place, passed}
 use Rattle.frame_laws.specs.Laws.{AreAlike, EndsKeepSame, IsAlike}
-use Rattle.frame_laws.proofs.Traces.{capped, outward_deep, outward_none, outward_some, passed_out}
+use Rattle.savepoints.proofs.PutLemmas.{capped, outward_deep, outward_none, outward_some, passed_out}
 
 module _ (traces : List Trace) (size left : ℕ) where
   abbrev after : List Trace

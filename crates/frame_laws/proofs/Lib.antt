@@ -2,4 +2,3 @@ pub mod Beginning
 pub mod Ending
 pub mod Restoring
 pub mod Touching
-pub mod Traces

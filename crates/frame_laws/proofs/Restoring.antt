@@ -1,8 +1,8 @@
 -- A rollback by copies makes of the objects what one of a session does.
-use Rattle.std.proofs.Common.{◌≡◌, ℕ, zero, suc, ◌+◌, ◌-◌, ◌<◌, ◌≤◌, Bool, true, false, ◌&&◌, ◌||◌, List, [], ◌∷◌, length, map, get_or, Option, None, Some, is_some, refl, sym, ap, ◌∙◌, subst, ⊎_elim, arith}
+use Rattle.std.proofs.Common.{◌≡◌, ℕ, zero, suc, ◌+◌, ◌-◌, ◌<◌, ◌≤◌, Bool, true, false, ◌&&◌, ◌||◌, List, [], ◌∷◌, length, map, get_or, Option, None, Some, is_some, refl, sym, ap, ◌∙◌, ⊎_elim, arith}
 use Rattle.std.specs.Prelude.{nat_le, nat_lt, not, ◌==◌, if◌then◌else◌}
 use Rattle.std.specs.List.{enumerate_from}
-use Rattle.std.proofs.lemmas.Bool.{and_from, and_parts, cases_eq, cases_lt}
+use Rattle.std.proofs.lemmas.Bool.{and_from, and_parts, cases_lt}
 use Rattle.std.proofs.lemmas.Bool.Decides.{nat_tests}
 use Rattle.object_arena.specs.declared.object.Object.{Object}
 use Rattle.object_arena.specs.Graph.{Graph, no_class_id, no_object}
@@ -12,28 +12,12 @@ use Rattle.savepoints.specs.declared.scope.Scope.{Scope}
 use Rattle.savepoints.specs.declared.scope.Standing.{Standing}
 use Rattle.savepoints.specs.declared.traces.Trace.{Trace}
 use Rattle.savepoints.specs.Scopes as scope
-use Rattle.savepoints.specs.Scopes.{Framed, any_below, back_to, expired_where, loaded_standing, made_since, no_scope, put_back_all, put_back_to, read_again, scope_at, since, stood_again, trace_in, wanted_standing}
-use Rattle.savepoints.proofs.BackLemmas.{below_some}
+use Rattle.savepoints.specs.Scopes.{any_below, back_to, expired_where, loaded_standing, made_since, no_scope, put_back_all, put_back_to, read_again, scope_at, since, stood_again, trace_in, wanted_standing}
+use Rattle.savepoints.proofs.BackLemmas.{below_from, below_some}
 use Rattle.frame_laws.specs.Copies.{Copy, Identity, Places, all_wanted, either, expired, goes_before, is_lost, put_back, restored, stood_since, wanted}
 use Rattle.frame_laws.specs.Laws.{AreAlike, AreNamedStill, IsAlike, RestoresTheSame}
 
 -- ---- tests of places
-
-below_from : (test : ℕ → Bool) (n j : ℕ) → j < n → test j ≡ true → any_below test n ≡ true
-below_from test zero j less h = absurd (omega (arith, less))
-below_from test (suc n) j less h =
-    ⊎_elim
-    (λ (same : j ≡ n). first (test n) (any_below test n) (subst (λ (k : ℕ). test k ≡ true) same h))
-    (λ other. second (test n) (any_below test n) (below_from test n j (omega (arith, less, other)) h))
-    (cases_eq j n)
-  where
-    first : (a b : Bool) → a ≡ true → (a || b) ≡ true
-    first true b e = refl
-    first false b e = absurd cc
-
-    second : (a b : Bool) → b ≡ true → (a || b) ≡ true
-    second true b e = refl
-    second false b e = e
 
 same_test : (a b : Bool) → (a ≡ true → b ≡ true) → (b ≡ true → a ≡ true) → a ≡ b
 same_test true b to from = sym (to refl)

@@ -1,6 +1,7 @@
 -- A touch keeps scopes by copies those of a session.
 use Rattle.std.proofs.Common.{◌≡◌, ◌⊎◌, inl, inr, ℕ, suc, ◌+◌, ◌-◌, ◌≤◌, Bool, true, false, ◌&&◌, ◌||◌, List, [], ◌∷◌, length, get_or, Option, Some, is_some, refl, sym, ap, ◌∙◌, subst, arith}
 use Rattle.std.specs.Prelude.{nat_le, not, ◌==◌, if◌then◌else◌}
+use Rattle.std.proofs.Math.Bool.{or_comm}
 use Rattle.std.proofs.lemmas.Bool.{eqb-true}
 use Rattle.std.proofs.lemmas.Bool.Decides.{nat_tests}
 use Rattle.base_core.specs.declared.ids.ObjId.{ObjId}
@@ -13,7 +14,7 @@ use Rattle.savepoints.specs.Scopes as scope
 use Rattle.savepoints.specs.Scopes.{Framed, no_scope, no_trace, scope_at, touch_in, touched_trace, trace_in, with_trace}
 use Rattle.frame_laws.specs.Copies.{Copy, Identity, Places, either, is_load, loaded_too, no_place, noted, touch}
 use Rattle.frame_laws.specs.Laws.{AreAlike, AreSame, IsAlike, TouchKeepsSame, outer_count}
-use Rattle.frame_laws.proofs.Traces.{put_at}
+use Rattle.savepoints.proofs.PutLemmas.{put_at}
 
 -- ---- facts of tests
 
@@ -24,12 +25,6 @@ or_assoc false b c = refl
 or_none : (a b : Bool) → (a || b) ≡ ((a || false) || b)
 or_none true b = refl
 or_none false b = refl
-
-or_swap : (a b : Bool) → (a || b) ≡ (b || a)
-or_swap true true = refl
-or_swap true false = refl
-or_swap false true = refl
-or_swap false false = refl
 
 and_none : (a : Bool) → (a && false) ≡ false
 and_none true = refl
@@ -118,7 +113,7 @@ module _ (frames : Framed) (size place : ℕ) (object : Object) where
         ∙ ap (λ (p : ℕ). load || is_some (copy.loaded p)) same
         ∙ ap (λ (b : Bool). load || b) (alike.loaded place late)
         ∙ ap (λ (b : Bool). b || before.loaded) load_is
-        ∙ or_swap (is_persistent object.state && ((before.depth == 0) && nat_le (length (scope_at 1 frames.scopes).standings) place)) before.loaded
+        ∙ or_comm (is_persistent object.state && ((before.depth == 0) && nat_le (length (scope_at 1 frames.scopes).standings) place)) before.loaded
         ∙ sym (ap (λ (t : Trace). t.loaded) (at other true is))
     loaded_then other false is past =
         ap (λ (found : Option Identity). is_some found) (loaded_there load place object.identity copy.loaded other is)

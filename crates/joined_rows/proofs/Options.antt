@@ -40,7 +40,9 @@ use Rattle.collection_selects.proofs.Placed.{StandsAt, at_more, attribute_typed}
 use Rattle.collection_selects.proofs.Standing.{column_stands}
 use Rattle.collection_selects.proofs.Rows.{ReadsClass, are_read, read_fits}
 use Rattle.main_selects.specs.MainSelect.{further_keys, main_select, option_columns, with_joined, with_shifted}
-use Rattle.joined_rows.specs.Parts.{IsJoinedRow, option_width, own_values, part_at, parts_from, parts_of, values_from, width_of}
+use Rattle.joined_rows.specs.Parts.{option_width, own_values, part_at, parts_from, parts_of, values_from, width_of}
+use Rattle.joined_rows.specs.Taking.{IsJoinedRow, IsRowAt}
+use Rattle.joined_rows.proofs.RowLemmas.{is_row_at}
 use Rattle.joined_rows.proofs.Widening.{IsOption, Items, Widens, columns_alike, count_sources, option_of, options_widen, placed_in, widens_itself, widens_then}
 use Rattle.joined_rows.proofs.Targets.{target_stands}
 
@@ -186,6 +188,15 @@ all_options mapped class s wide (place ∷ places) first row has related less in
       all_options mapped class mid wide places (part_at mapped class place first).end row has related less inside.1 widens kinds (next_first mapped class s mid relation first option is),
     )
 
+-- so what stands there is a row of the target, where the row has one
+all_targets : (mapped : Mapped) (class : ClassId) (places : List RelNo) (first : ℕ) (row : List Value) → HasHierarchies mapped → AreRelated mapped → IsClass mapped class → AllByRecursion (IsPlace mapped class) places
+    → AllByRecursion (λ part. AreOfKinds mapped part.target (values_from part row)) (parts_from mapped class first places) → AllByRecursion (IsRowAt mapped row) (parts_from mapped class first places)
+all_targets mapped class [] first row has related less inside kinds = tt
+all_targets mapped class (place ∷ places) first row has related less inside kinds = (
+  is_row_at mapped row (part_at mapped class place first) has (related.each class less place.0 no_relation inside.0).target kinds.0,
+  all_targets mapped class places (part_at mapped class place first).end row has related less inside.1 kinds.1,
+)
+
 -- ---- the main select
 
 shifted_widens : (s own wide : Select) → Widens s wide → Widens s (with_shifted own wide)
@@ -205,10 +216,13 @@ are_joined mapped query more (row ∷ rows) has related less places items source
     let widens : Widens s wide = shifted_widens s s joined (options_widen mapped class s query.joined) in
     let over : Widens joined wide = shifted_widens joined s joined (widens_itself joined) in
     let wide_own : width_of mapped class ≡ length s.items =
-    sym (ap (λ (xs : Items). length xs) items ∙ length-map (attribute_columns mapped class (from_root 0)) item_of ∙ length-map (attributes_of mapped class) (attribute_column mapped class (from_root 0))) in (
+    sym (ap (λ (xs : Items). length xs) items ∙ length-map (attribute_columns mapped class (from_root 0)) item_of ∙ length-map (attributes_of mapped class) (attribute_column mapped class (from_root 0))) in
+    let inside = recursion_from_All (IsPlace mapped class) query.joined places in
+    let options = all_options mapped class s wide query.joined (width_of mapped class) row has related less inside over kinds.0 wide_own in (
       record {
         own = own_row mapped class has less s wide more widens items sources row kinds.0 given.0;
-        options = all_options mapped class s wide query.joined (width_of mapped class) row has related less (recursion_from_All (IsPlace mapped class) query.joined places) over kinds.0 wide_own;
+        options = options;
+        targets = all_targets mapped class query.joined (width_of mapped class) row has related less inside options;
       },
       are_joined mapped query more rows has related less places items sources kinds.1 given.1,
     )

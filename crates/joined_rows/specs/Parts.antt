@@ -1,6 +1,5 @@
 -- What a row of a query's main select has of the query's class and of each joined option.
 use Rattle.std.specs.Prelude.{ℕ, ◌+◌, List, [], ◌∷◌, drop, length, take}
-use Rattle.std.specs.List.{AllByRecursion}
 use Rattle.base_core.specs.declared.ids.ClassId.{ClassId}
 use Rattle.base_core.specs.declared.ids.RelNo.{RelNo}
 use Rattle.base_core.specs.declared.value.Value.{Value}
@@ -9,7 +8,6 @@ use Rattle.class_mapping.specs.Mapped.{Mapped, attributes_of}
 use Rattle.object_arena.specs.Fit.{relation_of}
 use Rattle.load_columns.specs.Placing.{from_root}
 use Rattle.main_selects.specs.MainSelect.{option_columns}
-use Rattle.load_rows.specs.Reading.{AreOfKinds, IsRowOf}
 use Rattle.joined_rows.specs.declared.parts.Part.{Part}
 
 -- ---- where they stand
@@ -53,8 +51,3 @@ own_values mapped class row = take (width_of mapped class) row
 -- what a row has from a part on
 abbrev pub values_from : Part → List Value → List Value
 values_from part row = drop part.first row
-
--- a row of the class, and behind it for each attribute of each target a value that is NULL or of its kind
-pub record IsJoinedRow (mapped : Mapped) (class : ClassId) (parts : List Part) (row : List Value) : Type 0 where
-  pub own : IsRowOf mapped class (own_values mapped class row)
-  pub options : AllByRecursion (λ part. AreOfKinds mapped part.target (values_from part row)) parts

@@ -1,7 +1,7 @@
 -- The objects of the rows of a query's main select, and of the parts that they have of joined options, as a program.
 use Rattle.std.specs.Prelude.{◌≡◌, ℕ, ◌-◌, Bool, true, false, not, ◌&&◌, List, [], ◌∷◌, ◌++◌, drop, slice_get, take, Option, None, Some}
 use Rattle.std.specs.Option.{option_and_then}
-use Rattle.std.specs.List.{list_all}
+use Rattle.std.specs.List.{AllByRecursion, list_all}
 use Rattle.base_core.specs.declared.ids.ClassId.{ClassId}
 use Rattle.base_core.specs.declared.ids.ObjId.{ObjId}
 use Rattle.base_core.specs.declared.value.Value.{Value}
@@ -11,6 +11,7 @@ use Rattle.keeper_core.specs.Programs.{Run, ◌>>=◌, each, give}
 use Rattle.object_arena.specs.Fit.{end_fits, is_of_root}
 use Rattle.load_filling.specs.Rows.{row_key}
 use Rattle.load_rows.specs.Loading.{Loading, take_row}
+use Rattle.load_rows.specs.Reading.{AreOfKinds, IsRowOf}
 use Rattle.joined_rows.specs.declared.parts.Part.{Part}
 use Rattle.joined_rows.specs.Parts.{own_values, values_from}
 use Rattle.object_parts.specs.declared.answers.Taken.{Taken}
@@ -61,6 +62,19 @@ take_one mapped class parts row taken = take_owner mapped class parts row >>= λ
 -- the objects of rows, in order
 unfoldable pub take_joined : Mapped → ClassId → List Part → List (List Value) → Loading → Run Loading (List Taken)
 take_joined mapped class parts rows = each (take_one mapped class parts) [] rows
+
+-- ---- which rows they are
+
+-- where a row has an option's target, it has a row of the target there
+abbrev pub IsRowAt : Mapped → List Value → Part → Type 0
+IsRowAt mapped row part = has_target mapped part row ≡ true → IsRowOf mapped part.target (values_from part row)
+
+-- a row of the class, and behind it for each attribute of each target a value that is NULL or of its kind; where it has a target, a
+-- row of that
+pub record IsJoinedRow (mapped : Mapped) (class : ClassId) (parts : List Part) (row : List Value) : Type 0 where
+  pub own : IsRowOf mapped class (own_values mapped class row)
+  pub options : AllByRecursion (λ part. AreOfKinds mapped part.target (values_from part row)) parts
+  pub targets : AllByRecursion (IsRowAt mapped row) parts
 
 -- ---- whose they are
 

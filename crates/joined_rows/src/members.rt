@@ -9,9 +9,7 @@ ghost use Rattle.keeper_core.specs.Alone.{alone};
 ghost use Rattle.keeper_core.specs.Moment.{Runs};
 ghost use Rattle.load_filling.specs.Growing.{Grows};
 ghost use Rattle.load_rows.specs.Loading.{loading};
-ghost use Rattle.load_rows.specs.Reading.{AreOfKinds};
 ghost use Rattle.load_calls.specs.Refusals.{CanRefuseRow};
-ghost use Rattle.joined_rows.specs.Parts.{values_from};
 ghost use Rattle.joined_rows.specs.Taking as spec;
 
 use crate::Part;
@@ -35,15 +33,14 @@ fn take_member(
 ) -> Result<Option<ObjId>, Refusal>
     requires target { IsClass mapping.now part.target }
     requires fit { IsFit mapping.now arena.old }
-    requires kinds { AreOfKinds mapping.now part.target (values_from part row.now) }
+    requires row { spec.IsRowAt mapping.now row.now part }
     ensures step { Runs alone (λ member. member) (spec.take_member mapping.now row.now part)
         (loading arena.old notes.old) result (loading arena.new notes.new) }
     ensures of { IfOk result (spec.IsMember mapping.now arena.new.roots part) }
     ensures grows { Grows arena.old arena.new }
     ensures fits { IsFit mapping.now arena.new }
-    ensures refuses { IfErr result CanRefuseRow }
+    ensures refuses { IfErr result (CanRefuseRow mapping.now arena.new) }
 {
-    let _ = mapping.schema();
     let is_there = has_target(alloc, mapping, part, row)?;
     if !is_there {
         return Ok(None);
@@ -65,13 +62,13 @@ fn take_next(
 ) -> Result<(), Refusal>
     requires target { IsClass mapping.now part.target }
     requires fit { IsFit mapping.now arena.old }
-    requires kinds { AreOfKinds mapping.now part.target (values_from part row.now) }
+    requires row { spec.IsRowAt mapping.now row.now part }
     ensures step { Runs alone (λ _. members.new) (spec.take_next mapping.now row.now part members.old)
         (loading arena.old notes.old) result (loading arena.new notes.new) }
     ensures of { OnOk result (spec.IsOneMore mapping.now arena.new.roots part members.old members.new) }
     ensures grows { Grows arena.old arena.new }
     ensures fits { IsFit mapping.now arena.new }
-    ensures refuses { IfErr result CanRefuseRow }
+    ensures refuses { IfErr result (CanRefuseRow mapping.now arena.new) }
 {
     let member = take_member(alloc, arena, mapping, row, part, notes)?;
     Ok(members.push(member)?)
@@ -89,14 +86,13 @@ pub(crate) fn take_members(
 ) -> Result<ListOf<Option<ObjId>>, Refusal>
     requires targets { All (λ part. IsClass mapping.now part.target) parts.now }
     requires fit { IsFit mapping.now arena.old }
-    requires kinds { AllByRecursion
-        (λ part. AreOfKinds mapping.now part.target (values_from part row.now)) parts.now }
+    requires rows { AllByRecursion (spec.IsRowAt mapping.now row.now) parts.now }
     ensures step { Runs alone (λ members. members) (spec.take_members mapping.now parts.now row.now)
         (loading arena.old notes.old) result (loading arena.new notes.new) }
     ensures of { IfOk result (spec.AreMembers mapping.now arena.new.roots parts.now) }
     ensures grows { Grows arena.old arena.new }
     ensures fits { IsFit mapping.now arena.new }
-    ensures refuses { IfErr result CanRefuseRow }
+    ensures refuses { IfErr result (CanRefuseRow mapping.now arena.new) }
 {
     let mut members = ListOf::new(alloc);
     for part in parts {

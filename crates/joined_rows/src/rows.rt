@@ -13,10 +13,11 @@ ghost use Rattle.mapping_laws.specs.Hierarchies.{HasHierarchies};
 ghost use Rattle.load_columns.specs.Placing.{attribute_columns, from_root};
 ghost use Rattle.load_selects.specs.Selects.{item_of, origin_of};
 ghost use Rattle.main_selects.specs.MainSelect.{main_select};
-ghost use Rattle.joined_rows.specs.Parts.{IsJoinedRow, parts_of};
+ghost use Rattle.joined_rows.specs.Parts.{parts_of};
+ghost use Rattle.joined_rows.specs.Taking.{IsJoinedRow};
 
 /// What a keeper answers to a query's main select, over legal tables, are rows of the query's class, with a value that is NULL or
-/// of its kind for each attribute of each joined option's target. The query's own select has the attributes of the class as items,
+/// of its kind for each attribute of each joined option's target, and with a row of the target where no key of it is NULL. The query's own select has the attributes of the class as items,
 /// and its first sources are the tables of the class from the root's on.
 pub fn rows_have_parts()
     ensures { (mapped : Mapped) (query : ObjectQuery) (more : List Origin)

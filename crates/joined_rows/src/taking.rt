@@ -9,7 +9,7 @@ ghost use Rattle.keeper_core.specs.Moment.{Runs};
 ghost use Rattle.load_filling.specs.Growing.{Grows};
 ghost use Rattle.load_rows.specs.Loading.{loading};
 ghost use Rattle.load_calls.specs.Refusals.{CanRefuseRow};
-ghost use Rattle.joined_rows.specs.Parts.{IsJoinedRow};
+ghost use Rattle.joined_rows.specs.Taking.{IsJoinedRow};
 ghost use Rattle.joined_rows.specs.Taking as spec;
 
 use crate::Part;
@@ -42,7 +42,7 @@ fn take_owner(
     ensures of { IfOk result (spec.IsTaken mapping.now arena.new.roots class parts.now) }
     ensures grows { Grows arena.old arena.new }
     ensures fits { IsFit mapping.now arena.new }
-    ensures refuses { IfErr result CanRefuseRow }
+    ensures refuses { IfErr result (CanRefuseRow mapping.now arena.new) }
 {
     let values = own_values(mapping, class, row);
     let owner = take_row(alloc, arena, mapping, class, values, notes)?;
@@ -71,7 +71,7 @@ fn take_one(
         → OnOk result (All (spec.IsTaken mapping.now arena.new.roots class parts.now) taken.new) }
     ensures grows { Grows arena.old arena.new }
     ensures fits { IsFit mapping.now arena.new }
-    ensures refuses { IfErr result CanRefuseRow }
+    ensures refuses { IfErr result (CanRefuseRow mapping.now arena.new) }
 {
     let one = take_owner(alloc, arena, mapping, class, parts, row, notes)?;
     Ok(taken.push(one)?)
@@ -101,7 +101,7 @@ pub fn take_joined(
     ensures of { IfOk result (All (spec.IsTaken mapping.now arena.new.roots class parts.now)) }
     ensures grows { Grows arena.old arena.new }
     ensures fits { IsFit mapping.now arena.new }
-    ensures refuses { IfErr result CanRefuseRow }
+    ensures refuses { IfErr result (CanRefuseRow mapping.now arena.new) }
 {
     let mut taken = ListOf::new(alloc);
     for row in rows {

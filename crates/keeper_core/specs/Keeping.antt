@@ -11,7 +11,7 @@ use Rattle.schema_core.specs.declared.statement.Violation.{Violation}
 use Rattle.schema_core.specs.Apply.{table_of}
 use Rattle.schema_core.specs.Catalog.{Catalog, spec_of}
 use Rattle.schema_core.specs.Refusals.{violation_refusal}
-use Rattle.schema_core.specs.Tables.{AreAscending}
+use Rattle.schema_core.specs.Tables.{AreAscending, Tables}
 use Rattle.schema_core.specs.WellFormed.{MayViolate, is_row}
 use Rattle.expr_types.specs.declared.select.Bulk.{Bulk}
 use Rattle.expr_types.specs.declared.select.Select.{Select}
@@ -65,6 +65,11 @@ abbrev pub IsToldAnew : Target → Option (Told Store) → Result (Unit {0}) Ref
 IsToldAnew targets.Memory (Some told) (Ok u) now = now ≡ Some new_store
 IsToldAnew target told (Ok u) now = IfSome now (IsOpened target)
 IsToldAnew target told (Err e) now = now ≡ told
+
+-- the tables that are told, where any are, are these
+abbrev pub IsToldFrom : Option Tables → Option (Told Store) → Type 0
+IsToldFrom tables None = Unit {0}
+IsToldFrom tables (Some told) = tables ≡ Some told.world.tables
 
 -- the keeper keeps the target, and whether it took it; no scope is open
 pub record IsAttached (old : Moment Store) (target : Target) (result : Result (Unit {0}) Refusal) (new : Moment Store) : Type 0 where

@@ -1,8 +1,9 @@
 //! The trait of keepers of tables.
 
-ghost use Rattle.std.specs.Prelude.{◌≡◌, ◌+◌, ◌-◌, ◌<◌, ◌≤◌, ℕ, None, true, IfErr, IfOk, IfSome};
+ghost use Rattle.std.specs.Prelude.{◌≡◌, ◌+◌, ◌-◌, ◌<◌, ◌≤◌, ℕ, Option, None, true, IfErr, IfOk, IfSome};
 ghost use Rattle.schema_core.specs.Apply.{table_of};
 ghost use Rattle.schema_core.specs.Catalog.{IsTable};
+ghost use Rattle.schema_core.specs.Tables.{Tables};
 ghost use Rattle.schema_core.specs.WellFormed.{AreKeysFor, IsWellFormed};
 ghost use Rattle.sql_semantics.specs.Applied as bulk;
 ghost use Rattle.sql_semantics.specs.Plain.{IsPlainBulk, IsPlainSelect};
@@ -12,7 +13,7 @@ ghost use Rattle.keeper_core.specs.Programs.{as_refusal};
 ghost use Rattle.keeper_core.specs.Store.{Store};
 ghost use Rattle.keeper_core.specs.Calls.{query_refusal, refusal_by, stop_refusal, write_refusal};
 ghost use Rattle.keeper_core.specs.Keeping as keeping;
-ghost use Rattle.keeper_core.specs.Keeping.{AreRowsOf, HoldsLegalRows, HoldsRows, IsAttached, IsCoherent};
+ghost use Rattle.keeper_core.specs.Keeping.{AreRowsOf, HoldsLegalRows, HoldsRows, IsAttached, IsCoherent, IsToldFrom};
 
 use crate::target::Target;
 use base_core::{ArithOp, KeyList, RowList, TableId};
@@ -75,16 +76,23 @@ pub enum QueryRefusal {
 ///
 /// Each call ensures that it ran its program of the store, as far as the keeper tells it. Whatever a keeper tells,
 /// it counts its faults exactly and its refusals, and it keeps its depth, its last refusal with the statement, the
-/// target that it was given, and from then on whether it tells.
+/// target that it was given, and from then on whether it tells. What it tells then begins with the tables in its target.
 pub trait Keeper {
+    ghost use Rattle.keeper_core.specs.declared.target.Target.{Target};
+
     /// What is seen of it.
     ghost moment: { Self → Moment Store };
+
+    /// The tables in a target, where it will tell what it has once it took that one.
+    ghost opening: { Self → Target → Option Tables };
 
     /// Takes the target, once. Memory starts with no tables, a file with the tables in it; no statement was sent and no scope is open.
     fn attach(&mut self, alloc: Global, target: Target) -> Result<(), KeeperStop>
         requires { (moment self.old).target ≡ None }
-        ensures { IsAttached (moment self.old) target
-            (as_refusal stop_refusal result) (moment self.new) };
+        ensures call { IsAttached (moment self.old) target
+            (as_refusal stop_refusal result) (moment self.new) }
+        ensures opened { IfOk result
+            (λ u. IsToldFrom (opening self.old target) (moment self.new).told) };
 
     /// Makes a table, and commits; true where it was not there.
     fn create(&mut self, alloc: Global, schema: &Schema, table: TableId) -> Result<bool, KeeperStop>

@@ -21,12 +21,12 @@ use Rattle.keeper_core.proofs.Counts.{no_fault, own_is_no_fault}
 use Rattle.keeper_core.specs.Calls as call
 use Rattle.keeper_core.specs.Calls.{sends}
 use Rattle.keeper_core.specs.Keeping as keeping
-use Rattle.keeper_core.specs.Keeping.{HoldsLegalRows, HoldsRows, IsAttached, IsCall, IsLeft, IsStatement, IsToldAnew, IsUndone, new_store}
+use Rattle.keeper_core.specs.Keeping.{HoldsLegalRows, HoldsRows, IsAttached, IsCall, IsLeft, IsStatement, IsToldAnew, IsToldFrom, IsUndone, new_store}
 use Rattle.statement_log.specs.Logged.{start_of}
 use Rattle.keeper_mem.specs.declared.keeper.Attachment.{Attachment}
 use Rattle.keeper_mem.specs.declared.keeper.Attachment.TheVariants.{Fresh, Taken, Untaken}
 use Rattle.table_log.specs.Marks.{Marks, no_marks, place_dropped}
-use Rattle.keeper_mem.specs.Kept.{Does, IsMarked, IsNumbered, Kept, one_call_more, depth_by, call_ended, call_failed, is_failing, is_taken, moment_of, refused_by, sent_by, target_of, taken_by, told_by, told_of, untaken_by}
+use Rattle.keeper_mem.specs.Kept.{Does, IsMarked, IsNumbered, Kept, one_call_more, depth_by, call_ended, call_failed, is_failing, is_taken, moment_of, opening, refused_by, sent_by, target_of, taken_by, told_by, told_of, untaken_by}
 
 -- ---- a keeper that took its target tells what it has
 
@@ -414,7 +414,13 @@ attach_taken target old new memory is =
       attached = refl;
     }))
 
-pub ruleset attaching = (attach_failed, attach_taken)
+-- a keeper that took its target tells that it has no tables
+pub taken_empty : (target : Target) (old new : Kept) → target ≡ targets.Memory → new ≡ taken_by (one_call_more old) target → IsToldFrom (opening old target) (moment_of new).told
+taken_empty target old new memory is =
+    subst (λ t. IsToldFrom (opening old t) (moment_of new).told) (sym memory)
+    (subst (λ n. IsToldFrom (Some []) (moment_of n).told) (sym is) refl)
+
+pub ruleset attaching = (attach_failed, attach_taken, taken_empty)
 
 pub depth_here : (kept : Kept) → is_taken kept.attachment ≡ true → depth_by kept.attachment kept ≡ length kept.store.scopes
 depth_here kept taken = depth_taken kept.attachment kept taken

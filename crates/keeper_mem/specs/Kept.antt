@@ -10,6 +10,7 @@ use Rattle.keeper_core.specs.declared.target.Target.TheVariants as targets
 use Rattle.keeper_core.specs.Moment.{Moment, Refused, Told}
 use Rattle.keeper_core.specs.Programs.{Run, ends_early, is_fault}
 use Rattle.keeper_core.specs.Store.{Store, committed_of}
+use Rattle.schema_core.specs.Tables.{Tables}
 use Rattle.keeper_core.specs.Calls.{sends}
 use Rattle.keeper_core.specs.Keeping.{IsCoherent, IsCoherentTold, new_store}
 use Rattle.table_log.specs.Marks.{HasMore, IsNoted, Marked, Marks, no_marks}
@@ -72,6 +73,11 @@ moment_of kept = record {
   target = target_of kept.attachment;
   attached = is_taken kept.attachment;
 }
+
+-- it begins with no tables in memory, and takes no file
+abbrev pub opening : Kept → Target → Option Tables
+opening kept targets.Memory = Some []
+opening kept (targets.File name) = None
 
 -- the number is in the list
 unfoldable pub is_listed : ℕ → List ℕ → Bool

@@ -11,10 +11,10 @@ ghost use Rattle.keeper_core.specs.Programs.{as_refusal};
 ghost use Rattle.keeper_core.specs.declared.keeper.KeeperStop.TheVariants as stops;
 ghost use Rattle.keeper_core.specs.Calls.{query_refusal, stop_refusal, write_refusal};
 ghost use Rattle.keeper_core.specs.Keeping as keeping;
-ghost use Rattle.keeper_core.specs.Keeping.{AreRowsOf, HoldsLegalRows, HoldsRows, IsAttached};
+ghost use Rattle.keeper_core.specs.Keeping.{AreRowsOf, HoldsLegalRows, HoldsRows, IsAttached, IsToldFrom};
 ghost use Rattle.table_log.specs.Marks.{log_cut, no_marks, place_added, place_dropped};
 ghost use Rattle.row_statements.specs.Held.{rows_changed};
-ghost use Rattle.keeper_mem.specs.Kept.{IsCounted, IsMarked, IsNumbered, coherent, is_failing, is_faulted, is_file, moment_of};
+ghost use Rattle.keeper_mem.specs.Kept.{IsCounted, IsMarked, IsNumbered, coherent, is_failing, is_faulted, is_file, moment_of, opening};
 
 use crate::MemKeeper;
 use base_core::{KeyList, RowList, TableId};
@@ -26,13 +26,17 @@ use std::alloc::Global;
 impl Keeper for MemKeeper {
     ghost moment = { moment_of };
 
+    ghost opening = { opening };
+
     ghost coherent = { coherent };
 
     #[tactic(auto, using(crate::proofs::Keeping::attaching))]
     fn attach(&mut self, alloc: Global, target: Target) -> Result<(), KeeperStop>
         requires { (moment_of self.old).target ≡ None }
-        ensures kept { IsAttached (moment_of self.old) target
+        ensures call { IsAttached (moment_of self.old) target
             (as_refusal stop_refusal result) (moment_of self.new) }
+        ensures opened { IfOk result
+            (λ u. IsToldFrom (opening self.old target) (moment_of self.new).told) }
         ensures faults { is_faulted
             (as_refusal stop_refusal result) ≡ (is_failing self.old || is_file target) }
         ensures counted { IsCounted self.old self.new }

@@ -7,7 +7,8 @@ use Rattle.keeper_core.specs.declared.target.Target.TheVariants as targets
 use Rattle.keeper_core.specs.Moment.{Moment, Ran, parts}
 use Rattle.keeper_core.specs.Programs.{Run}
 use Rattle.keeper_core.specs.Store.{Store}
-use Rattle.keeper_core.specs.Keeping.{IsAttached, IsCall, IsStatement}
+use Rattle.schema_core.specs.Tables.{Tables}
+use Rattle.keeper_core.specs.Keeping.{IsAttached, IsCall, IsStatement, IsToldFrom}
 use Rattle.keeper_mem.specs.declared.keeper.Attachment.{Attachment}
 use Rattle.keeper_mem.specs.declared.keeper.Attachment.TheVariants.{Fresh, Taken, Untaken}
 use Rattle.keeper_mem.specs.Kept as mem
@@ -88,6 +89,10 @@ placed_in_file {target = target} {counted = counted} {old = old} new made none t
     subst (λ f. IsAttached (mem.moment_of old) target (Ok tt) (moment_by f new.memory)) (sym is)
     (subst (λ k. IsAttached (mem.moment_of k) target (Ok tt) (sqlite.moment_of counted)) (sym (made none)) (file_taken target counted t))
 
+-- a keeper over a file tells nothing
+pub file_untold : {counted : sqlite.Counted} (new : Shelved) (tables : Option Tables) → new.file ≡ Some counted → IsToldFrom tables (moment_of new).told
+file_untold new tables is = subst (λ f. IsToldFrom tables (moment_by f new.memory).told) (sym is) tt
+
 some_is_not_none : {A : Type 0} {x : A} → ◌≡◌ {A = Option A} (Some x) None → ⊥
 some_is_not_none e = cc
 
@@ -95,4 +100,4 @@ some_is_not_none e = cc
 pub made_by : {target : Target} {r : Result (Unit {0}) Refusal} (old : mem.Kept) {new : mem.Kept} → IsAttached (mem.moment_of old) target r (mem.moment_of new) → IsMade new
 made_by old a = λ none. absurd (some_is_not_none (sym a.given ∙ none))
 
-pub ruleset placing = (placed_in_file, made_by)
+pub ruleset placing = (placed_in_file, file_untold, made_by)

@@ -2,6 +2,7 @@
 use Rattle.std.specs.Prelude.{◌≡◌, [], Option, None, Some, Ok}
 use Rattle.keeper_core.specs.Moment.{Moment}
 use Rattle.keeper_core.specs.Store.{Store}
+use Rattle.schema_core.specs.Tables.{Tables}
 use Rattle.keeper_core.specs.declared.target.Target.{Target}
 use Rattle.keeper_core.specs.declared.target.Target.TheVariants as targets
 use Rattle.keeper_core.specs.Keeping.{IsAttached, IsCoherent}
@@ -27,6 +28,10 @@ moment_by (Some counted) kept = sqlite.moment_of counted
 
 abbrev pub moment_of : Shelved → Moment Store
 moment_of shelf = moment_by shelf.file shelf.memory
+
+-- it begins with no tables in memory, and will not tell what is in a file
+abbrev pub opening : Shelved → Target → Option Tables
+opening shelf target = mem.opening shelf.memory target
 
 coherent_by : (file : Option sqlite.Counted) (kept : mem.Kept) → IsCoherent (moment_by file kept)
 coherent_by None kept = mem.coherent kept

@@ -1,6 +1,6 @@
 //! The calls of a keeper, done by the one that stands behind it.
 
-ghost use Rattle.keeper_shelf.specs.Shelved.{coherent, moment_of};
+ghost use Rattle.keeper_shelf.specs.Shelved.{coherent, moment_of, opening};
 
 use crate::Shelf;
 use base_core::{KeyList, RowList, TableId};
@@ -12,6 +12,8 @@ use std::alloc::Global;
 
 impl<D: Database + Drop> Keeper for Shelf<D> {
     ghost moment = { moment_of };
+
+    ghost opening = { opening };
 
     ghost coherent = { coherent };
 

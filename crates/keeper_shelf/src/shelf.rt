@@ -4,8 +4,8 @@ ghost use Rattle.std.specs.Prelude.{◌≡◌, ◌<◌, ◌≤◌, None, IfOk, I
 ghost use Rattle.base_core.specs.declared.refusal.Refusal.TheVariants as refusals;
 ghost use Rattle.keeper_core.specs.Programs.{as_refusal};
 ghost use Rattle.keeper_core.specs.Calls.{stop_refusal};
-ghost use Rattle.keeper_core.specs.Keeping.{IsAttached};
-ghost use Rattle.keeper_shelf.specs.Shelved.{IsOverFile, moment_of, new_shelf};
+ghost use Rattle.keeper_core.specs.Keeping.{IsAttached, IsToldFrom};
+ghost use Rattle.keeper_shelf.specs.Shelved.{IsOverFile, moment_of, new_shelf, opening};
 
 use keeper_core::{Keeper, KeeperStop, Target};
 use keeper_mem::MemKeeper;
@@ -86,8 +86,10 @@ impl<D: Database + Drop> Shelf<D> {
     pub(crate) fn place(&mut self, alloc: Global, target: Target) -> Result<(), KeeperStop>
         requires memory { self.old.file ≡ None }
         requires fresh { (moment_of self.old).target ≡ None }
-        ensures { IsAttached (moment_of self.old) target
+        ensures call { IsAttached (moment_of self.old) target
             (as_refusal stop_refusal result) (moment_of self.new) }
+        ensures opened { IfOk result
+            (λ u. IsToldFrom (opening self.old target) (moment_of self.new).told) }
     {
         if let Some(keeper) = over_file(self.rt, alloc, &target) {
             self.file = Some(keeper);

@@ -7,6 +7,7 @@ use Rattle.keeper_core.specs.declared.target.Target.{Target}
 use Rattle.keeper_core.specs.Moment.{Moment, Refused}
 use Rattle.keeper_core.specs.Programs.{ends_early}
 use Rattle.keeper_core.specs.Store.{Store}
+use Rattle.schema_core.specs.Tables.{Tables}
 use Rattle.keeper_core.specs.declared.keeper.KeeperStop.{KeeperStop}
 use Rattle.keeper_core.specs.declared.keeper.KeeperStop.TheVariants as stops
 use Rattle.keeper_core.specs.Calls.{stop_refusal}
@@ -37,6 +38,10 @@ moment_of kept = record {
   target = kept.target;
   attached = kept.attached;
 }
+
+-- nor will it tell what is in a target
+abbrev pub opening : Counted → Target → Option Tables
+opening kept target = None
 
 pub coherent : (kept : Counted) → IsCoherent (moment_of kept)
 coherent kept = refl

@@ -1,6 +1,6 @@
 //! The calls of a keeper, done by SQLite.
 
-ghost use Rattle.keeper_sqlite.specs.Counted.{coherent, moment_of};
+ghost use Rattle.keeper_sqlite.specs.Counted.{coherent, moment_of, opening};
 
 use crate::SqliteKeeper;
 use base_core::{KeyList, RowList, TableId};
@@ -22,6 +22,8 @@ fn open_target<D: Database>(rt: HostRuntime, alloc: Global, target: &Target) -> 
 
 impl<D: Database + Drop> Keeper for SqliteKeeper<D> {
     ghost moment = { moment_of };
+
+    ghost opening = { opening };
 
     ghost coherent = { coherent };
 

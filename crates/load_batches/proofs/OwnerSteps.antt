@@ -26,9 +26,9 @@ use Rattle.load_batches.specs.Batches.{IsKeyed, IsOwned, IsOwner, batch_at, batc
 use Rattle.load_batches.specs.declared.owners.Owner.{Owner}
 
 -- a persistent owner has a key of its class's root's table
-pub owner_keyed : (mapped : Mapped) (graph : Graph) (relation : Relation) (place : RelNo) (object : ObjId) (own : Object) → HasHierarchies mapped → AreRelated mapped → IsOwner mapped graph relation place object → ObjectFits mapped own
+pub owner_keyed : (mapped : Mapped) (graph : Graph) (relation : Relation) (place : RelNo) (object : ObjId) (own : Object) → IsOwner mapped graph relation place object → ObjectFits mapped own
     → own ≡ object_at graph object → is_identified own ≡ true → IsOwned mapped graph relation place (with_key graph object)
-owner_keyed mapped graph relation place object own has related owner fits is identity =
+owner_keyed mapped graph relation place object own owner fits is identity =
     let class : ClassId = (object_at graph object).class in
     let less : IsClass mapped class = subst (λ (o : Object). IsClass mapped o.class) is fits.class in
     let fit : key_fits mapped class (identity_key graph object) ≡ true =
@@ -37,7 +37,7 @@ owner_keyed mapped graph relation place object own has related owner fits is ide
       made = owner.made;
       within = owner.within;
       is = owner.is;
-      keyed =
+      keyed = λ has related.
           ap (λ (one : Relation). is_key (root_spec mapped one.class) (identity_key graph object)) (sym owner.is)
           ∙ owner_key mapped class place (identity_key graph object) has less owner.within (related_at mapped class place related less owner.within) fit;
     }
@@ -82,8 +82,9 @@ pub owned_at : (mapped : Mapped) (old new : Graph) (relation : Relation) (place 
     → owner ≡ get_or owners i owner → IsOwned mapped new relation place owner
 owned_at mapped old new relation place owners i owner grows all less is = owned_there mapped old new relation place owner grows (subst (IsOwned mapped old relation place) (sym is) (all i owner less))
 
-pub keyed_all : (mapped : Mapped) (graph : Graph) (relation : Relation) (place : RelNo) (owners : List Owner) → All (IsOwned mapped graph relation place) owners → All (IsKeyed mapped relation) owners
-keyed_all mapped graph relation place owners all = λ i d less. (all i d less).keyed
+pub keyed_all : (mapped : Mapped) (graph : Graph) (relation : Relation) (place : RelNo) (owners : List Owner) → All (IsOwned mapped graph relation place) owners → HasHierarchies mapped → AreRelated mapped
+    → All (IsKeyed mapped relation) owners
+keyed_all mapped graph relation place owners all has related = λ i d less. (all i d less).keyed has related
 
 -- ---- those of a batch
 

@@ -12,7 +12,9 @@ use Rattle.schema_core.specs.Tables.{same_values}
 use Rattle.schema_core.specs.WellFormed.{is_key}
 use Rattle.class_types.specs.declared.mapped.Relation.{Relation}
 use Rattle.class_sides.specs.Keys.{TableKey}
+use Rattle.class_mapping.specs.Configured.{HasHierarchies}
 use Rattle.class_mapping.specs.Mapped.{Mapped, relations_of, root_spec}
+use Rattle.class_mapping.specs.Related.{AreRelated}
 use Rattle.keeper_core.specs.Programs.{Run, ◌>>=◌, change, each, give}
 use Rattle.keeper_core.specs.Beside.{by_own, on_own}
 use Rattle.object_arena.specs.declared.object.State.TheVariants.{Persistent}
@@ -55,12 +57,13 @@ pub record IsOwner (mapped : Mapped) (graph : Graph) (relation : Relation) (plac
 abbrev pub IsKeyed : Mapped → Relation → Owner → Type 0
 IsKeyed mapped relation owner = is_key (root_spec mapped relation.class) owner.key ≡ true
 
--- such an owner, at whose place the relationship stands
+-- such an owner, at whose place the relationship stands; where hierarchies and relationships are as they are to be,
+-- its key is one of that table
 pub record IsOwned (mapped : Mapped) (graph : Graph) (relation : Relation) (place : RelNo) (owner : Owner) : Type 0 where
   pub made : IsObject graph owner.object
   pub within : place.0 < length (relations_of mapped (object_at graph owner.object).class)
   pub is : relation_of mapped (object_at graph owner.object).class place ≡ relation
-  pub keyed : IsKeyed mapped relation owner
+  pub keyed : HasHierarchies mapped → AreRelated mapped → IsKeyed mapped relation owner
 
 -- ---- members
 

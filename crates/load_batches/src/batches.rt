@@ -2,17 +2,18 @@
 
 ghost use Rattle.std.specs.Prelude.{◌≡◌, ◌<◌, true, length, IfErr, IfOk};
 ghost use Rattle.std.specs.List.{All, AllByRecursion};
+ghost use Rattle.class_mapping.specs.Configured.{IsConfigured};
 ghost use Rattle.class_mapping.specs.Related.{IsRelated};
 ghost use Rattle.object_arena.specs.Fit.{IsFit};
 ghost use Rattle.object_arena.specs.Graph.{Graph};
 ghost use Rattle.keeper_core.specs.Beside.{moment_beside};
 ghost use Rattle.keeper_core.specs.Moment.{Runs};
 ghost use Rattle.sql_semantics.specs.Plain.{IsPlainSelect};
-ghost use Rattle.mapping_laws.specs.Hierarchies.{HasHierarchies};
 ghost use Rattle.collection_selects.specs.Collections.{batch_select};
 ghost use Rattle.load_filling.specs.Growing.{Grows};
 ghost use Rattle.load_rows.specs.Loading.{loading};
 ghost use Rattle.collection_selects.specs.Pairs.{IsMemberRow};
+ghost use Rattle.load_calls.specs.Refreshing.{CanRefuseCells};
 ghost use Rattle.load_calls.specs.Reading.{IsReady, StaysReady};
 ghost use Rattle.load_calls.specs.Refusals.{CanRefuseRows};
 ghost use Rattle.load_batches.specs.Batches as spec;
@@ -42,13 +43,13 @@ fn select_of_batch(
     requires related { IsRelated mapping.now relation.now }
     requires many { relation.now.many ≡ true }
     requires some { 0 < length owners.now }
-    requires keyed { All (spec.IsKeyed mapping.now relation.now) owners.now }
+    requires keyed { IsConfigured mapping.now
+        → All (spec.IsKeyed mapping.now relation.now) owners.now }
     ensures select { IfOk result
         (λ s. s ≡ batch_select mapping.now relation.now (spec.keys_of owners.now)) }
-    ensures plain { IfOk result (IsPlainSelect mapping.now.schema) }
-    ensures hierarchies { IfOk result (λ _. HasHierarchies mapping.now) }
+    ensures plain { IfOk result
+        (λ s. IsConfigured mapping.now → IsPlainSelect mapping.now.schema s) }
 {
-    let _ = mapping.schema();
     let keys = keys_of(alloc, owners)?;
     batch_select(alloc, mapping, relation, keys.as_slice())
 }
@@ -65,14 +66,15 @@ fn read_batch<K: Keeper>(
     requires related { IsRelated mapping.now relation.now }
     requires many { relation.now.many ≡ true }
     requires some { 0 < length owners.now }
-    requires keyed { All (spec.IsKeyed mapping.now relation.now) owners.now }
+    requires keyed { IsConfigured mapping.now
+        → All (spec.IsKeyed mapping.now relation.now) owners.now }
     requires ready { IsReady (K.moment keeper.old) }
     ensures step { (graph : Graph) → Runs (moment_beside K.moment) (λ rows. rows)
         (spec.read_batch mapping.now relation.now owners.now)
         (loading graph notes.old, keeper.old) result (loading graph notes.new, keeper.new) }
     ensures stays { StaysReady (K.moment keeper.old) result (K.moment keeper.new) }
     ensures rows { IfOk result (AllByRecursion (IsMemberRow mapping.now relation.now)) }
-    ensures refuses { IfErr result (CanRefuseRows mapping.now) }
+    ensures refuses { IfErr result (CanRefuseCells mapping.now) }
 {
     let wanted = select_of_batch(alloc, mapping, relation, owners)?;
     let rows = read(alloc, mapping, keeper, &wanted, notes);
@@ -103,7 +105,7 @@ fn load_batch<K: Keeper>(
     ensures stays { StaysReady (K.moment keeper.old) result (K.moment keeper.new) }
     ensures grows { Grows arena.old arena.new }
     ensures fits { IsFit mapping.now arena.new }
-    ensures refuses { IfErr result (CanRefuseRows mapping.now) }
+    ensures refuses { IfErr result (CanRefuseRows mapping.now arena.new) }
 {
     if owners.is_empty() {
         return Ok(());
@@ -147,7 +149,7 @@ fn load_each<K: Keeper>(
     ensures stays { StaysReady (K.moment keeper.old) result (K.moment keeper.new) }
     ensures grows { Grows arena.old arena.new }
     ensures fits { IsFit mapping.now arena.new }
-    ensures refuses { IfErr result (CanRefuseRows mapping.now) }
+    ensures refuses { IfErr result (CanRefuseRows mapping.now arena.new) }
 {
     for start in starts {
         let batch = batch_at(owners, *start);
@@ -179,7 +181,7 @@ fn load_batches<K: Keeper>(
     ensures stays { StaysReady (K.moment keeper.old) result (K.moment keeper.new) }
     ensures grows { Grows arena.old arena.new }
     ensures fits { IsFit mapping.now arena.new }
-    ensures refuses { IfErr result (CanRefuseRows mapping.now) }
+    ensures refuses { IfErr result (CanRefuseRows mapping.now arena.new) }
 {
     let starts = batch_starts(alloc, owners.len())?;
     load_each(
@@ -226,7 +228,7 @@ pub fn load_members<K: Keeper>(
     ensures stays { StaysReady (K.moment keeper.old) result (K.moment keeper.new) }
     ensures grows { Grows arena.old arena.new }
     ensures fits { IsFit mapping.now arena.new }
-    ensures refuses { IfErr result (CanRefuseRows mapping.now) }
+    ensures refuses { IfErr result (CanRefuseRows mapping.now arena.new) }
 {
     let unloaded = unloaded_owners(alloc, &*arena, mapping, relation, place, owners)?;
     load_batches(

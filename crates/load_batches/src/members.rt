@@ -118,7 +118,7 @@ fn take_member(
         (root_of mapping.now relation.now.target) object ≡ true) (spec.objects_in members.new)) }
     ensures grows { Grows arena.old arena.new }
     ensures fits { IsFit mapping.now arena.new }
-    ensures refuses { IfErr result CanRefuseRow }
+    ensures refuses { IfErr result (CanRefuseRow mapping.now arena.new) }
 {
     let owner = values_in(alloc, places, row)?;
     let values = rest_from(row, width as usize);
@@ -149,7 +149,7 @@ pub(crate) fn take_members(
         (root_of mapping.now relation.now.target) object ≡ true) (spec.objects_in members)) }
     ensures grows { Grows arena.old arena.new }
     ensures fits { IsFit mapping.now arena.new }
-    ensures refuses { IfErr result CanRefuseRow }
+    ensures refuses { IfErr result (CanRefuseRow mapping.now arena.new) }
 {
     let width = owner_width(alloc, mapping, relation)?;
     let places = owner_places(alloc, mapping, relation, width)?;

@@ -28,7 +28,7 @@ pub fn is_unloaded(arena: &Arena, mapping: &Mapping, object: ObjId, place: RelNo
     requires place { place.0 < length (relations_of mapping.now (object_at arena.now object).class) }
     ensures { result ≡ spec.is_unloaded (link_at arena.now object place) }
 {
-    let _ = mapping.schema();
+    let _ = mapping;
     object_parts::is_unloaded(arena.object(object).links.at(place.0 as usize))
 }
 
@@ -46,7 +46,7 @@ fn with_key(
     ensures owner { IfOk result (λ o. o ≡ spec.with_key arena.now owner) }
     ensures owned { IfOk result (spec.IsOwned mapping.now arena.now relation.now place) }
 {
-    let _ = mapping.schema();
+    let _ = mapping;
     let _ = place;
     let _ = arena.object(owner);
     let _ = relation;

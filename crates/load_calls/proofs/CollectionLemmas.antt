@@ -86,7 +86,7 @@ select_is mapped graph owner relation key (Ok s) named made = made ∙ ap (membe
 select_is mapped graph owner relation key (Err e) named made = tt
 
 -- it is plain
-pub members_plain : {E : Type 0} (mapped : Mapped) (graph : Graph) (owner : ObjId) (place : RelNo) (relation : Relation) (key : List Value) (own : Object) (r : Result Select E) → HasHierarchies mapped → AreRelated mapped → ObjectFits mapped own
+pub members_plain : {E : Type 0} (mapped : Mapped) (graph : Graph) (owner : ObjId) (place : RelNo) (relation : Relation) (key : List Value) (own : Object) (r : Result Select E) → HasHierarchies mapped → IsRelated mapped relation → ObjectFits mapped own
     → own ≡ object_at graph owner → (object_at graph owner).state ≡ Persistent → is_identified own ≡ true → key ≡ identity_key graph owner → place.0 < length (relations_of mapped (object_at graph owner).class)
     → relation ≡ relation_of mapped (object_at graph owner).class place → relation.many ≡ true → IfOk r (λ s. s ≡ members_select mapped relation key) → IfOk r (IsPlainSelect mapped.schema)
 members_plain mapped graph owner place relation key own (Ok s) has related fits is persistent identity named within which many made =
@@ -94,10 +94,10 @@ members_plain mapped graph owner place relation key own (Ok s) has related fits 
     let less : IsClass mapped class = subst (λ (o : Object). IsClass mapped o.class) is fits.class in
     let own_fits : key_fits mapped class key ≡ true =
     ap (λ (o : Object). key_fits mapped o.class key) (sym is) ∙ ap (key_fits mapped own.class) named ∙ own_key_fits mapped graph owner own fits is persistent identity in
-    let there : IsRelated mapped (relation_of mapped class place) = related_at mapped class place related less within in
+    let there : IsRelated mapped (relation_of mapped class place) = subst (IsRelated mapped) which related in
     let keyed : is_key (root_spec mapped relation.class) key ≡ true =
     ap (λ (one : Relation). is_key (root_spec mapped one.class) key) which ∙ owner_key mapped class place key has less within there own_fits in
-    subst (IsPlainSelect mapped.schema) (sym made) (members_are_plain mapped relation key has (subst (IsRelated mapped) (sym which) there) many keyed)
+    subst (IsPlainSelect mapped.schema) (sym made) (members_are_plain mapped relation key has related many keyed)
 members_plain mapped graph owner place relation key own (Err e) has related fits is persistent identity named within which many made = tt
 
 -- it is related
@@ -189,15 +189,6 @@ pub members_refused : {K : Type 0} (moment : K → Moment Store) (mapped : Mappe
 members_refused moment mapped relation which owner place {own = own} {now = now} {old = old} {new = new} e same p =
     subst (λ (one : Relation). Runs (moment_beside moment) (λ (u : Unit {0}). u) (load_collection mapped one owner place) (own, old) (Err e) (now, new)) same (select_refused moment mapped relation owner place p)
 
-pub related_told : {A E : Type 0} (mapped : Mapped) (graph : Graph) (owner : ObjId) (place : RelNo) (relation : Relation) (own : Object) (r : Result A E) → AreRelated mapped → ObjectFits mapped own → own ≡ object_at graph owner
-    → place.0 < length (relations_of mapped (object_at graph owner).class) → relation ≡ relation_of mapped (object_at graph owner).class place → IfOk r (λ _. IsRelated mapped relation)
-related_told mapped graph owner place relation own (Ok x) related fits is within which = owned_related mapped graph owner place relation own related fits is within which
-related_told mapped graph owner place relation own (Err e) related fits is within which = tt
-
-pub has_told : {A E : Type 0} (mapped : Mapped) (r : Result A E) → HasHierarchies mapped → IfOk r (λ _. HasHierarchies mapped)
-has_told mapped (Ok x) has = has
-has_told mapped (Err e) has = tt
-
 -- ---- the objects that there were
 
 classes_grow : (old new : Graph) (owner : ObjId) → Grows old new → IsObject old owner → ((object_at new owner).class ≡ (object_at old owner).class) × IsObject new owner
@@ -224,10 +215,6 @@ owner_there old new owner grows made = (classes_grow old new owner grows made).1
 
 pub class_there : (old new : Graph) (owner : ObjId) → Grows old new → IsObject old owner → (object_at new owner).class ≡ (object_at old owner).class
 class_there old new owner grows made = (classes_grow old new owner grows made).0
-
-pub declared_told : {A : Type 0} (mapped : Mapped) (class : ClassId) (r : Result A Refusal) → IsClass mapped class → IfOk r (λ _. IsClass mapped class)
-declared_told mapped class (Ok x) less = less
-declared_told mapped class (Err e) less = tt
 
 abbrev relation_there : Mapped → Graph → ObjId → RelNo → Relation
 relation_there mapped graph owner place = relation_of mapped (object_at graph owner).class place

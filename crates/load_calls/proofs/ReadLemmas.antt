@@ -1,5 +1,5 @@
 -- A select that is noted and sent, as a run of the world that has the objects and the notes beside the keeper.
-use Rattle.std.proofs.Common.{◌≡◌, ℕ, ◌≤◌, Bool, true, false, cond, List, [], ◌∷◌, ◌++◌, Result, Ok, Err, IfErr, IsErrAnd, MatchBool, sym, ap, subst, ◌∙◌}
+use Rattle.std.proofs.Common.{◌≡◌, ℕ, ◌≤◌, Bool, true, false, cond, List, [], ◌∷◌, ◌++◌, Result, Ok, Err, IfErr, IfOk, IsErrAnd, MatchBool, sym, ap, subst, ◌∙◌}
 use Rattle.base_core.specs.declared.refusal.Refusal.{Refusal}
 use Rattle.base_core.specs.declared.refusal.Refusal.TheVariants.{Memory}
 use Rattle.base_core.specs.declared.value.Value.{Value}
@@ -93,3 +93,10 @@ passed_memory P (Err d) passed p = subst P (sym passed) p
 pub passed_refusal : {A : Type 0} (P : Refusal → Type 0) (e : Refusal) (r : Result A Refusal) → IsErrAnd r (λ d. d ≡ e) → P e → IfErr r P
 passed_refusal P e (Ok x) passed p = absurd passed
 passed_refusal P e (Err d) passed p = subst P (sym passed) p
+
+-- ---- answers
+
+-- what is told of an answer where a fact holds
+pub told_of : {A E : Type 0} (Fact : Type 0) (P : A → Type 0) (r : Result A E) → (Fact → IfOk r P) → IfOk r (λ a. Fact → P a)
+told_of Fact P (Ok a) told = told
+told_of Fact P (Err e) told = tt

@@ -1,5 +1,5 @@
 -- The reading of expired cells, put together of its parts.
-use Rattle.std.proofs.Common.{◌≡◌, ℕ, zero, suc, ◌+◌, ◌<◌, true, ◌==◌, List, [], ◌∷◌, ◌++◌, length, filter, get_or, Option, None, Some, Result, Ok, Err, IfErr, IfOk, IsErrAnd, OnOk, if◌then◌else◌, not, refl, sym, ap, subst, ◌∙◌, arith}
+use Rattle.std.proofs.Common.{◌≡◌, ℕ, zero, suc, ◌+◌, ◌<◌, true, false, ◌==◌, List, [], ◌∷◌, ◌++◌, length, filter, get_or, Option, None, Some, Result, Ok, Err, IfErr, IfOk, IsErrAnd, OnOk, if◌then◌else◌, not, refl, sym, ap, subst, ◌∙◌, arith}
 use Rattle.std.specs.Prelude.{slice_get, is_some, unwrap_or}
 use Rattle.std.specs.Option.{option_and_then, option_map}
 use Rattle.std.specs.List.{All, AllByRecursion, enumerate_from, position, range_with_len}
@@ -34,10 +34,12 @@ use Rattle.keeper_core.proofs.Sequence.{done, then_err, then_ok}
 use Rattle.keeper_core.specs.declared.notes.Note.{Note}
 use Rattle.keeper_core.specs.declared.notes.Note.TheVariants as note
 use Rattle.sql_semantics.specs.Plain.{IsPlainSelect}
+use Rattle.sql_semantics.specs.SelectRefusals.{calculates}
 use Rattle.sql_semantics.specs.Shapes.{AreOfItems}
 use Rattle.mapping_laws.specs.Hierarchies.{HasHierarchies}
 use Rattle.mapping_laws.proofs.Ties.{class_tables}
 use Rattle.collection_selects.proofs.ClassLemmas.{cells_are_plain}
+use Rattle.collection_selects.proofs.NoArithmetic.{cells_calculate_nothing}
 use Rattle.mapping_laws.proofs.KeyKinds.{keys_alike}
 use Rattle.collection_selects.proofs.Rows.{are_cells}
 use Rattle.load_selects.specs.Selects.{cells_select}
@@ -47,6 +49,7 @@ use Rattle.load_rows.specs.Reading.{identity_key}
 use Rattle.collection_selects.specs.Rows.{AreCellsOf}
 use Rattle.load_calls.specs.Reading.{read}
 use Rattle.load_calls.proofs.ReadLemmas.{passed_refusal}
+use Rattle.load_calls.proofs.RefusalLemmas.{select_refuses}
 use Rattle.keeper_core.specs.Keeping.{RefusesSelect}
 use Rattle.load_calls.specs.Refreshing.{CanRefuse, CanRefuseCells, IsDeletedOrMemory, IsShownDeleted, Scene, attr_of, expired_attrs, found_among, found_at, is_expired, read_cells, refresh, refresh_cells, take_cells, with_cells_select}
 
@@ -188,14 +191,6 @@ refresh_refused moment mapped object attrs graph is some p = chosen_cells moment
 
 -- ---- refusals
 
--- what refuses the select of an object's cells
-select_refuses : (mapped : Mapped) (s : Select) (e : Refusal) → RefusesSelect mapped.schema s e → CanRefuseCells mapped e
-select_refuses mapped s (OperationalError table) h = h.1
-select_refuses mapped s (DataError op a b) h = tt
-select_refuses mapped s KeeperFault h = tt
-select_refuses mapped s Memory h = tt
-select_refuses mapped s e h = absurd h.0
-
 -- it refuses the reading of them
 pub cells_refuse : (mapped : Mapped) (object : ObjId) (e : Refusal) → CanRefuseCells mapped e → CanRefuse mapped object e
 cells_refuse mapped object (ObjectDeletedError deleted) h = absurd h
@@ -263,9 +258,14 @@ cells_told mapped graph object attrs own (Ok s) has fits is there made = λ rows
     (recursion_from_All (IsAttribute mapped (object_at graph object).class) attrs there) (subst (λ (t : Select). AreOfItems mapped.schema t rows) made kinds)
 cells_told mapped graph object attrs own (Err e) has fits is there made = tt
 
-pub all_refuse : (mapped : Mapped) (s : Select) (r : Result Rows Refusal) → IfErr r (RefusesSelect mapped.schema s) → IfErr r (CanRefuseCells mapped)
-all_refuse mapped s (Ok rows) h = tt
-all_refuse mapped s (Err e) h = select_refuses mapped s e h
+-- the select of some cells calculates nothing
+pub cells_quiet : (mapped : Mapped) (object : ObjId) (attrs : List AttrNo) (graph : Graph) (select : Select) → select ≡ cells_select mapped (object_at graph object).class attrs (identity_key graph object) → calculates select ≡ false
+cells_quiet mapped object attrs graph select is =
+    ap (λ (s : Select). calculates s) is ∙ cells_calculate_nothing mapped (object_at graph object).class attrs (identity_key graph object)
+
+pub all_refuse : (mapped : Mapped) (s : Select) (r : Result Rows Refusal) → calculates s ≡ false → IfErr r (RefusesSelect mapped.schema s) → IfErr r (CanRefuseCells mapped)
+all_refuse mapped s (Ok rows) none h = tt
+all_refuse mapped s (Err e) none h = select_refuses mapped s e none h
 
 pub err_deleted : (mapped : Mapped) (object : ObjId) (r : Result (Unit {0}) Refusal) → IfErr r (IsDeletedOrMemory object) → IfErr r (CanRefuse mapped object)
 err_deleted mapped object (Ok u) h = tt

@@ -6,7 +6,7 @@ use Rattle.base_core.specs.declared.ids.AttrNo.{AttrNo}
 use Rattle.base_core.specs.declared.ids.ObjId.{ObjId}
 use Rattle.base_core.specs.declared.value.Value.{Value}
 use Rattle.base_core.specs.declared.refusal.Refusal.{Refusal}
-use Rattle.base_core.specs.declared.refusal.Refusal.TheVariants.{DataError, KeeperFault, Memory, ObjectDeletedError, OperationalError}
+use Rattle.base_core.specs.declared.refusal.Refusal.TheVariants.{KeeperFault, Memory, ObjectDeletedError, OperationalError}
 use Rattle.schema_core.specs.Catalog.{IsTable}
 use Rattle.class_mapping.specs.Mapped.{Mapped}
 use Rattle.keeper_core.specs.declared.sent.Sent.TheVariants as sent
@@ -68,10 +68,9 @@ IsDeletedOrMemory object (ObjectDeletedError deleted) = deleted ≡ object
 IsDeletedOrMemory object Memory = Unit {0}
 IsDeletedOrMemory object e = ⊥
 
--- a table was not created, the store failed, or memory ran out; a keeper that tells nothing may also refuse a select for a result outside 64 bits
+-- a table was not created, the store failed, or memory ran out
 abbrev pub CanRefuseCells : Mapped → Refusal → Type 0
 CanRefuseCells mapped (OperationalError table) = IsTable mapped.schema table
-CanRefuseCells mapped (DataError op a b) = Unit {0}
 CanRefuseCells mapped KeeperFault = Unit {0}
 CanRefuseCells mapped Memory = Unit {0}
 CanRefuseCells mapped e = ⊥

@@ -2,7 +2,8 @@
 
 ghost use Rattle.std.specs.Prelude.{◌≡◌, ◌<◌, true, length, IfErr, IfOk};
 ghost use Rattle.std.specs.List.{AllByRecursion};
-ghost use Rattle.class_mapping.specs.Mapped.{IsClass, relations_of};
+ghost use Rattle.class_mapping.specs.Configured.{IsConfigured};
+ghost use Rattle.class_mapping.specs.Mapped.{relations_of};
 ghost use Rattle.class_mapping.specs.Related.{IsRelated};
 ghost use Rattle.object_arena.specs.declared.object.State.TheVariants.{Persistent};
 ghost use Rattle.object_arena.specs.Fit.{IsFit, relation_of};
@@ -10,11 +11,11 @@ ghost use Rattle.object_arena.specs.Graph.{IsObject, object_at};
 ghost use Rattle.keeper_core.specs.Beside.{moment_beside};
 ghost use Rattle.keeper_core.specs.Moment.{Runs};
 ghost use Rattle.sql_semantics.specs.Plain.{IsPlainSelect};
-ghost use Rattle.mapping_laws.specs.Hierarchies.{HasHierarchies};
 ghost use Rattle.collection_selects.specs.Collections.{members_select};
 ghost use Rattle.load_filling.specs.Growing.{Grows};
 ghost use Rattle.load_rows.specs.Loading.{loading};
 ghost use Rattle.load_rows.specs.Reading.{IsRowOf, identity_key};
+ghost use Rattle.load_calls.specs.Refreshing.{CanRefuseCells};
 ghost use Rattle.load_calls.specs.Reading.{IsReady, StaysReady};
 ghost use Rattle.load_calls.specs.Collections as spec;
 ghost use Rattle.load_calls.specs.Refusals.{CanRefuseRows};
@@ -46,14 +47,13 @@ fn select_of_members(
     requires place { place.0 < length (relations_of mapping.now (object_at arena.now owner).class) }
     requires relation { relation.now
         ≡ relation_of mapping.now (object_at arena.now owner).class place }
+    requires related { IsRelated mapping.now relation.now }
     requires many { relation.now.many ≡ true }
     ensures select { IfOk result (λ s. s ≡ members_select mapping.now relation.now
         (identity_key arena.now owner)) }
-    ensures plain { IfOk result (IsPlainSelect mapping.now.schema) }
-    ensures related { IfOk result (λ _. IsRelated mapping.now relation.now) }
-    ensures hierarchies { IfOk result (λ _. HasHierarchies mapping.now) }
+    ensures plain { IfOk result
+        (λ s. IsConfigured mapping.now → IsPlainSelect mapping.now.schema s) }
 {
-    let _ = mapping.schema();
     let _ = place;
     let _ = arena.object(owner);
     let key = identity_key(alloc, arena, owner)?;
@@ -77,6 +77,7 @@ fn read_members<K: Keeper>(
     requires place { place.0 < length (relations_of mapping.now (object_at arena.now owner).class) }
     requires relation { relation.now
         ≡ relation_of mapping.now (object_at arena.now owner).class place }
+    requires related { IsRelated mapping.now relation.now }
     requires many { relation.now.many ≡ true }
     requires ready { IsReady (K.moment keeper.old) }
     ensures step { Runs (moment_beside K.moment) (λ rows. rows)
@@ -84,9 +85,8 @@ fn read_members<K: Keeper>(
         (loading arena.now notes.old, keeper.old) result
         (loading arena.now notes.new, keeper.new) }
     ensures stays { StaysReady (K.moment keeper.old) result (K.moment keeper.new) }
-    ensures target { IfOk result (λ _. IsClass mapping.now relation.now.target) }
     ensures rows { IfOk result (AllByRecursion (IsRowOf mapping.now relation.now.target)) }
-    ensures refuses { IfErr result (CanRefuseRows mapping.now) }
+    ensures refuses { IfErr result (CanRefuseCells mapping.now) }
 {
     let wanted = select_of_members(alloc, arena, mapping, relation, owner, place)?;
     let rows = read(alloc, mapping, keeper, &wanted, notes);
@@ -124,7 +124,7 @@ pub fn load_collection<K: Keeper>(
     ensures stays { StaysReady (K.moment keeper.old) result (K.moment keeper.new) }
     ensures grows { Grows arena.old arena.new }
     ensures fits { IsFit mapping.now arena.new }
-    ensures refuses { IfErr result (CanRefuseRows mapping.now) }
+    ensures refuses { IfErr result (CanRefuseRows mapping.now arena.new) }
 {
     let relation = relation_at(mapping, arena.object(owner).class, place);
     let rows = read_members(

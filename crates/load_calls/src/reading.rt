@@ -48,7 +48,7 @@ fn are_answers(
 }
 
 /// The rows of a select over the tables now, which is noted, a refused one too. What stands beside the keeper stays, but for the
-/// note. Whatever the keeper, the rows have one value for each item, of the item's kind, and NULL only where that may be.
+/// note. The select is plain over a mapping of which all was checked, as each is. Whatever the keeper, the rows have one value for each item, of the item's kind, and NULL only where that may be.
 ///
 /// # Errors
 /// What the keeper refuses of a select. Rows of another shape are refused as for want of memory; a keeper whose tables are legal
@@ -61,7 +61,7 @@ pub fn read<K: Keeper>(
     notes: &mut Notes,
 ) -> Result<RowList, Refusal>
     requires ready { IsReady (K.moment keeper.old) }
-    requires plain { IsPlainSelect mapping.now.schema select.now }
+    requires plain { IsConfigured mapping.now → IsPlainSelect mapping.now.schema select.now }
     ensures step { (graph : Graph) → Runs (moment_beside K.moment) (λ rows. rows)
         (spec.read mapping.now.schema select.now)
         (loading graph notes.old, keeper.old) result (loading graph notes.new, keeper.new) }

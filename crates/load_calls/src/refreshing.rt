@@ -3,6 +3,7 @@
 ghost use Rattle.std.specs.Prelude.{◌≡◌, ◌==◌, List, length, IfErr, IfOk, OnOk};
 ghost use Rattle.std.specs.List.{All, AllByRecursion, position};
 ghost use Rattle.base_core.specs.declared.value.Value.{Value};
+ghost use Rattle.class_mapping.specs.Configured.{IsConfigured};
 ghost use Rattle.class_mapping.specs.Mapped.{IsAttribute};
 ghost use Rattle.object_arena.specs.declared.object.State.TheVariants.{Persistent};
 ghost use Rattle.object_arena.specs.Every.{classes_of};
@@ -61,11 +62,12 @@ fn select_of_cells(
     requires attrs { All (IsAttribute mapping.now (object_at arena.now object).class) attrs.now }
     ensures select { IfOk result (λ s. s ≡ cells_select mapping.now
         (object_at arena.now object).class attrs.now (identity_key arena.now object)) }
-    ensures plain { IfOk result (IsPlainSelect mapping.now.schema) }
-    ensures cells { IfOk result (λ s. (rows : List (List Value)) → AreOfItems mapping.now.schema s rows
+    ensures plain { IfOk result
+        (λ s. IsConfigured mapping.now → IsPlainSelect mapping.now.schema s) }
+    ensures cells { IfOk result (λ s. IsConfigured mapping.now
+        → (rows : List (List Value)) → AreOfItems mapping.now.schema s rows
         → AllByRecursion (AreCellsOf mapping.now (object_at arena.now object).class attrs.now) rows) }
 {
-    let _ = mapping.schema();
     let class = arena.object(object).class;
     let key = identity_key(alloc, arena, object)?;
     cells_select(alloc, mapping, class, attrs, &key)

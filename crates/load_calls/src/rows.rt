@@ -41,7 +41,7 @@ fn take_next(
         objects.new) }
     ensures grows { Grows arena.old arena.new }
     ensures fits { IsFit mapping.now arena.new }
-    ensures refuses { IfErr result CanRefuseRow }
+    ensures refuses { IfErr result (CanRefuseRow mapping.now arena.new) }
 {
     let object = take_row(alloc, arena, mapping, class, values, notes)?;
     Ok(objects.push(object)?)
@@ -69,7 +69,7 @@ pub fn take_rows(
         (λ object. is_of_root arena.new.roots (root_of mapping.now class) object ≡ true)) }
     ensures grows { Grows arena.old arena.new }
     ensures fits { IsFit mapping.now arena.new }
-    ensures refuses { IfErr result CanRefuseRow }
+    ensures refuses { IfErr result (CanRefuseRow mapping.now arena.new) }
 {
     let mut objects = ListOf::new(alloc);
     for row in rows {

@@ -1,6 +1,6 @@
 -- The keys of targets that are to be read, each where it comes first.
 use Rattle.std.proofs.Common.{◌≡◌, Bool, true, false, not, ◌||◌, List, [], ◌∷◌, ◌++◌, Result, Ok, Err, OnOk, is_none, if◌then◌else◌, refl, sym, ap, subst, ◌∙◌}
-use Rattle.std.proofs.Math.Bool.{or-false}
+use Rattle.std.proofs.Math.Bool.{or-false, or_comm}
 use Rattle.std.specs.BTreeSet.{BTreeSet, contains}
 use Rattle.std.specs.List.{All, list_any}
 use Rattle.std.proofs.lemmas.Bool.{and_parts}
@@ -35,19 +35,13 @@ new_first seen keys new key b (Ok u) has asked so pushed =
     pushed ∙ sym (ap (λ (c : Bool). if c then keys else (keys ++ key ∷ [])) (sym (has.same key) ∙ sym asked ∙ so))
 new_first seen keys new key b (Err e) has asked so pushed = tt
 
-turned : (a b : Bool) → (a || b) ≡ (b || a)
-turned true true = refl
-turned true false = refl
-turned false true = refl
-turned false false = refl
-
 -- the set has one more then
 pub seen_more : {E : Type 0} (seen more : BTreeSet (List Value)) (keys new : Keys) (key : List Value) (r : Result (Unit {0}) E) → HasSeen seen keys
     → ((other : List Value) → contains values_cmp more other ≡ (same_values key other || contains values_cmp seen other)) → OnOk r (new ≡ keys ++ key ∷ []) → OnOk r (HasSeen more new)
 seen_more seen more keys new key (Ok u) has entered pushed = record {
   same = λ other.
       entered other ∙ ap (λ (b : Bool). same_values key other || b) (has.same other)
-      ∙ turned (same_values key other) (list_any (same_values other) keys)
+      ∙ or_comm (same_values key other) (list_any (same_values other) keys)
       ∙ ap (λ (b : Bool). list_any (same_values other) keys || b) (same_row_equiv.symm key other ∙ sym (or-false (same_values other key)))
       ∙ sym (list_any-append (same_values other) keys (key ∷ [])) ∙ ap (λ (xs : Keys). list_any (same_values other) xs) (sym pushed);
 }

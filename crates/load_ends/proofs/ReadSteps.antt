@@ -42,12 +42,11 @@ Rows = List (List Value)
 -- ---- the select of keys
 
 -- it is plain
-pub keys_plain : {E : Type 0} (mapped : Mapped) (class : ClassId) (keys : Rows) (r : Result Select E) → HasHierarchies mapped → IsClass mapped class → 0 < length keys → All (FitsClass mapped class) keys → IfOk r (λ s. s ≡ targets_select mapped class keys)
-    → IfOk r (IsPlainSelect mapped.schema)
-keys_plain mapped class keys (Ok s) has less some fits made =
+pub keys_plain : (mapped : Mapped) (class : ClassId) (keys : Rows) (select : Select) → HasHierarchies mapped → IsClass mapped class → 0 < length keys → All (FitsClass mapped class) keys → select ≡ targets_select mapped class keys
+    → IsPlainSelect mapped.schema select
+keys_plain mapped class keys select has less some fits made =
     subst (IsPlainSelect mapped.schema) (sym made)
     (targets_are_plain mapped class keys has less some (λ i d within. sym (keys_alike mapped class _ has (class_tables mapped class has less)) ∙ fits i d within))
-keys_plain mapped class keys (Err e) has less some fits made = tt
 
 -- what is answered to it are rows of the class
 pub keys_rows : (mapped : Mapped) (class : ClassId) (keys : Rows) (select : Select) (r : Result Rows Refusal) → HasHierarchies mapped → IsClass mapped class → select ≡ targets_select mapped class keys

@@ -9,12 +9,11 @@ ghost use Rattle.object_arena.specs.Graph.{Graph};
 ghost use Rattle.keeper_core.specs.Alone.{alone};
 ghost use Rattle.keeper_core.specs.Beside.{moment_beside};
 ghost use Rattle.keeper_core.specs.Moment.{Runs};
-ghost use Rattle.sql_semantics.specs.Plain.{IsPlainSelect};
-ghost use Rattle.mapping_laws.specs.Hierarchies.{HasHierarchies};
 ghost use Rattle.load_selects.specs.Selects.{targets_select};
 ghost use Rattle.load_filling.specs.Growing.{Grows};
 ghost use Rattle.load_rows.specs.Loading.{loading};
 ghost use Rattle.load_rows.specs.Reading.{IsRowOf};
+ghost use Rattle.load_calls.specs.Refreshing.{CanRefuseCells};
 ghost use Rattle.load_calls.specs.Reading.{IsReady, StaysReady, read};
 ghost use Rattle.load_calls.specs.Refusals.{CanRefuseRow, CanRefuseRows};
 ghost use Rattle.load_ends.specs.Ends as spec;
@@ -24,32 +23,13 @@ use crate::keys::wanted_keys;
 use crate::owners::unloaded;
 use base_core::{ClassId, Key, ObjId, Refusal, RelNo, RowList, RowValues};
 use class_mapping::{Mapping, Relation};
-use expr_types::Select;
 use keeper_core::{Keeper, Notes};
 use load_batches::batch_at;
 use load_calls::{read, take_rows};
 use load_selects::targets_select;
 use object_arena::Arena;
 use object_parts::batch_starts;
-use std::alloc::{AllocError, Global};
-
-/// The select of the rows of a class under keys.
-fn select_of_keys(
-    alloc: Global,
-    mapping: &Mapping,
-    class: ClassId,
-    keys: &[Key],
-) -> Result<Select, AllocError>
-    requires class { IsClass mapping.now class }
-    requires some { 0 < length keys.now }
-    requires keys { All (spec.FitsClass mapping.now class) keys.now }
-    ensures select { IfOk result (λ s. s ≡ targets_select mapping.now class keys.now) }
-    ensures plain { IfOk result (IsPlainSelect mapping.now.schema) }
-    ensures hierarchies { IfOk result (λ _. HasHierarchies mapping.now) }
-{
-    let _ = mapping.schema();
-    targets_select(alloc, mapping, class, keys)
-}
+use std::alloc::Global;
 
 /// The rows of a class under keys.
 fn read_keys<K: Keeper>(
@@ -69,9 +49,9 @@ fn read_keys<K: Keeper>(
         (loading graph notes.old, keeper.old) result (loading graph notes.new, keeper.new) }
     ensures stays { StaysReady (K.moment keeper.old) result (K.moment keeper.new) }
     ensures rows { IfOk result (AllByRecursion (IsRowOf mapping.now class)) }
-    ensures refuses { IfErr result (CanRefuseRows mapping.now) }
+    ensures refuses { IfErr result (CanRefuseCells mapping.now) }
 {
-    let wanted = select_of_keys(alloc, mapping, class, keys)?;
+    let wanted = targets_select(alloc, mapping, class, keys)?;
     read(alloc, mapping, keeper, &wanted, notes)
 }
 
@@ -91,7 +71,7 @@ fn take_targets(
         (loading arena.old notes.old) result (loading arena.new notes.new) }
     ensures grows { Grows arena.old arena.new }
     ensures fits { IsFit mapping.now arena.new }
-    ensures refuses { IfErr result CanRefuseRow }
+    ensures refuses { IfErr result (CanRefuseRow mapping.now arena.new) }
 {
     let _objects = take_rows(alloc, arena, mapping, class, rows, notes)?;
     Ok(())
@@ -118,7 +98,7 @@ fn load_keys<K: Keeper>(
     ensures stays { StaysReady (K.moment keeper.old) result (K.moment keeper.new) }
     ensures grows { Grows arena.old arena.new }
     ensures fits { IsFit mapping.now arena.new }
-    ensures refuses { IfErr result (CanRefuseRows mapping.now) }
+    ensures refuses { IfErr result (CanRefuseRows mapping.now arena.new) }
 {
     if keys.is_empty() {
         return Ok(());
@@ -150,7 +130,7 @@ fn load_each<K: Keeper>(
     ensures stays { StaysReady (K.moment keeper.old) result (K.moment keeper.new) }
     ensures grows { Grows arena.old arena.new }
     ensures fits { IsFit mapping.now arena.new }
-    ensures refuses { IfErr result (CanRefuseRows mapping.now) }
+    ensures refuses { IfErr result (CanRefuseRows mapping.now arena.new) }
 {
     for start in starts {
         let batch = batch_at(keys, *start);
@@ -180,7 +160,7 @@ fn load_all<K: Keeper>(
     ensures stays { StaysReady (K.moment keeper.old) result (K.moment keeper.new) }
     ensures grows { Grows arena.old arena.new }
     ensures fits { IsFit mapping.now arena.new }
-    ensures refuses { IfErr result (CanRefuseRows mapping.now) }
+    ensures refuses { IfErr result (CanRefuseRows mapping.now arena.new) }
 {
     let starts = batch_starts(alloc, keys.len())?;
     load_each(
@@ -218,7 +198,7 @@ fn load_unloaded<K: Keeper>(
     ensures stays { StaysReady (K.moment keeper.old) result (K.moment keeper.new) }
     ensures grows { Grows arena.old arena.new }
     ensures fits { IsFit mapping.now arena.new }
-    ensures refuses { IfErr result (CanRefuseRows mapping.now) }
+    ensures refuses { IfErr result (CanRefuseRows mapping.now arena.new) }
 {
     let keys = wanted_keys(alloc, &*arena, mapping, relation, place, owners)?;
     load_all(
@@ -263,7 +243,7 @@ pub fn load_ends<K: Keeper>(
     ensures stays { StaysReady (K.moment keeper.old) result (K.moment keeper.new) }
     ensures grows { Grows arena.old arena.new }
     ensures fits { IsFit mapping.now arena.new }
-    ensures refuses { IfErr result (CanRefuseRows mapping.now) }
+    ensures refuses { IfErr result (CanRefuseRows mapping.now arena.new) }
 {
     let unread = unloaded(alloc, &*arena, mapping, relation, place, owners)?;
     load_unloaded(

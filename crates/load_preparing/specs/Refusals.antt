@@ -3,14 +3,15 @@ use Rattle.std.specs.Prelude.{◌≡◌, Some}
 use Rattle.base_core.specs.declared.ids.ObjId.{ObjId}
 use Rattle.base_core.specs.declared.refusal.Refusal.{Refusal}
 use Rattle.class_mapping.specs.Mapped.{Mapped}
+use Rattle.object_arena.specs.Graph.{Graph}
 use Rattle.load_filling.specs.Growing.{Grows}
 use Rattle.load_calls.specs.Refreshing.{IsShownDeleted, Scene}
 use Rattle.load_calls.specs.Refusals.{CanRefuseLoad}
 use Rattle.prepared_objects.specs.Known.{next_unread}
 
--- what may refuse the reading of some object
-abbrev pub CanRefuseReading : Mapped → Refusal → Type 0
-CanRefuseReading mapped e = (object : ObjId) × CanRefuseLoad mapped object e
+-- what may refuse the reading of some object, by the objects that there are then
+abbrev pub CanRefuseReading : Mapped → Graph → Refusal → Type 0
+CanRefuseReading mapped graph e = (object : ObjId) × CanRefuseLoad mapped graph object e
 
 -- at some scene since, over the same objects or more, what refuses the reading of the object is shown
 pub record IsShownAfter (mapped : Mapped) (object : ObjId) (old new : Scene) (e : Refusal) : Type 0 where
@@ -24,5 +25,5 @@ pub record IsShownReading (mapped : Mapped) (old new : Scene) (e : Refusal) : Ty
   pub turn : Scene
   pub since : Grows old.0.graph turn.0.graph
   pub next : next_unread mapped turn.0.graph ≡ Some object
-  pub cause : CanRefuseLoad mapped object e
+  pub cause : CanRefuseLoad mapped new.0.graph object e
   pub shown : IsShownAfter mapped object turn new e

@@ -47,7 +47,7 @@ fn read_object<K: Keeper>(
     ensures stays { StaysReady (K.moment keeper.old) result (K.moment keeper.new) }
     ensures grows { Grows arena.old arena.new }
     ensures fits { IsFit mapping.now arena.new }
-    ensures refuses { IfErr result (CanRefuseLoad mapping.now object) }
+    ensures refuses { IfErr result (CanRefuseLoad mapping.now arena.new object) }
     ensures shown { IfErr result (refusals.IsShownAfter mapping.now object
         (loading arena.old notes.old, K.moment keeper.old)
         (loading arena.new notes.new, K.moment keeper.new)) }
@@ -80,7 +80,7 @@ pub fn read_going<K: Keeper>(
     ensures grows { Grows arena.old arena.new }
     ensures fits { IsFit mapping.now arena.new }
     ensures refuses { IfErr result
-        (λ e. (e ≡ Memory) ⊎ refusals.CanRefuseReading mapping.now e) }
+        (λ e. (e ≡ Memory) ⊎ refusals.CanRefuseReading mapping.now arena.new e) }
     ensures shown { IfErr result (λ e. (e ≡ Memory) ⊎ refusals.IsShownReading mapping.now
         (loading arena.old notes.old, K.moment keeper.old)
         (loading arena.new notes.new, K.moment keeper.new) e) }

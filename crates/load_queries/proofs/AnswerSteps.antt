@@ -25,11 +25,11 @@ use Rattle.keeper_core.specs.declared.notes.Note.{Note}
 use Rattle.load_rows.specs.Loading.{Loading, loading}
 use Rattle.main_selects.specs.MainSelect.{main_select}
 use Rattle.joined_rows.specs.declared.parts.Part.{Part}
-use Rattle.joined_rows.specs.Parts.{IsJoinedRow, part_at, parts_from, parts_of, width_of}
+use Rattle.joined_rows.specs.Parts.{part_at, parts_from, parts_of, width_of}
 use Rattle.load_calls.specs.Reading.{read}
 use Rattle.load_queries.proofs.FirstSteps.{firsts_all}
 use Rattle.object_parts.specs.declared.answers.Taken.{Taken}
-use Rattle.joined_rows.specs.Taking.{IsTaken, take_joined}
+use Rattle.joined_rows.specs.Taking.{IsJoinedRow, IsTaken, take_joined}
 use Rattle.load_queries.specs.Joined.{IsPartOf, answered, fill_owners, fill_taken, load_joined, take_answers}
 
 abbrev Rows : Type 0
@@ -63,6 +63,10 @@ targets_told mapped class places (Ok parts) related less inside are =
     subst (All declared) (sym are)
     (All-from_recursion declared (parts_from mapped class (width_of mapped class) places) (every_target mapped class (width_of mapped class) places related less (recursion_from_All (λ (place : RelNo). place.0 < length (relations_of mapped class)) places inside)))
 targets_told mapped class places (Err e) related less inside are = tt
+
+pub related_told : {A E : Type 0} (mapped : Mapped) (r : Result A E) → AreRelated mapped → IfOk r (λ _. AreRelated mapped)
+related_told mapped (Ok x) related = related
+related_told mapped (Err e) related = tt
 
 pub seen_parts : {E : Type 0} (mapped : Mapped) (class : ClassId) (places shown : List RelNo) (r : Result (List Part) E) → shown ≡ places → IfOk r (λ parts. parts ≡ parts_of mapped class shown) → IfOk r (λ parts. parts ≡ parts_of mapped class places)
 seen_parts mapped class places shown r seen are = subst (λ (xs : List RelNo). IfOk r (λ parts. parts ≡ parts_of mapped class xs)) seen are

@@ -1,5 +1,5 @@
 -- The reading of the objects of a query, put together of its parts.
-use Rattle.std.proofs.Common.{◌≡◌, List, [], Result, Ok, Err, IfErr, IfOk, sym, ap, subst, ◌∙◌}
+use Rattle.std.proofs.Common.{◌≡◌, List, Result, Ok, Err, IfErr, IfOk, sym, ap, subst, ◌∙◌}
 use Rattle.std.specs.List.{AllByRecursion}
 use Rattle.base_core.specs.declared.ids.ClassId.{ClassId}
 use Rattle.base_core.specs.declared.ids.ObjId.{ObjId}
@@ -8,7 +8,6 @@ use Rattle.base_core.specs.declared.refusal.Refusal.{Refusal}
 use Rattle.base_core.specs.declared.refusal.Refusal.TheVariants.{Memory}
 use Rattle.expr_types.specs.declared.select.ObjectQuery.{ObjectQuery}
 use Rattle.expr_types.specs.declared.select.Select.{Select}
-use Rattle.sql_semantics.specs.Plain.{IsPlainSelect}
 use Rattle.sql_semantics.specs.Shapes.{AreGiven, AreOfItems}
 use Rattle.class_mapping.specs.Mapped.{IsClass, Mapped}
 use Rattle.mapping_laws.specs.Hierarchies.{HasHierarchies}
@@ -19,10 +18,7 @@ use Rattle.keeper_core.specs.Programs.{give}
 use Rattle.keeper_core.specs.Store.{Store}
 use Rattle.keeper_core.proofs.AloneLemmas.{beside_alone, lost_alone}
 use Rattle.keeper_core.proofs.Sequence.{done, then_err, then_ok}
-use Rattle.mapping_laws.proofs.Ties.{class_tables}
-use Rattle.load_selects.specs.Selects.{class_rows}
-use Rattle.collection_selects.proofs.ClassLemmas.{rows_plain}
-use Rattle.collection_selects.proofs.Rows.{are_read, reads_rows}
+use Rattle.collection_selects.proofs.Rows.{are_read}
 use Rattle.load_rows.specs.Loading.{Loading}
 use Rattle.load_rows.specs.Reading.{IsRowOf}
 use Rattle.load_calls.specs.Reading.{read}
@@ -38,17 +34,6 @@ pub query_rows : (mapped : Mapped) (class : ClassId) (s : Select) (r : Result Ro
 query_rows mapped class s (Ok rows) has less reads kinds given =
     are_read mapped class s rows has less (record { more = reads.more; items = reads.items; sources = reads.sources }) kinds given
 query_rows mapped class s (Err e) has less reads kinds given = tt
-
--- the select of all rows of a class is plain, and reads its objects
-pub every_plain : {E : Type 0} (mapped : Mapped) (class : ClassId) (r : Result Select E) → HasHierarchies mapped → IsClass mapped class → IfOk r (λ s. s ≡ class_rows mapped class []) → IfOk r (IsPlainSelect mapped.schema)
-every_plain mapped class (Ok s) has less made = subst (IsPlainSelect mapped.schema) (sym made) (rows_plain mapped class has less (class_tables mapped class has less) [] tt)
-every_plain mapped class (Err e) has less made = tt
-
-pub every_read : {E : Type 0} (mapped : Mapped) (class : ClassId) (r : Result Select E) → HasHierarchies mapped → IsClass mapped class → IfOk r (λ s. s ≡ class_rows mapped class []) → IfOk r (ReadsObjects mapped class)
-every_read mapped class (Ok s) has less made =
-    let reads = reads_rows mapped class [] has less in
-    subst (ReadsObjects mapped class) (sym made) (record { more = reads.more; items = reads.items; sources = reads.sources })
-every_read mapped class (Err e) has less made = tt
 
 -- the objects of the rows were taken, each once
 pub objects_taken : (mapped : Mapped) (class : ClassId) (rows : Rows) (objects shown : List ObjId) (own now : Loading) (r : Result (List ObjId) Refusal) → shown ≡ objects

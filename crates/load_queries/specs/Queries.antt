@@ -1,8 +1,7 @@
 -- The reading of the objects of a query, as a program.
-use Rattle.std.specs.Prelude.{◌≡◌, List, [], ◌++◌, map}
+use Rattle.std.specs.Prelude.{◌≡◌, List, ◌++◌, map}
 use Rattle.base_core.specs.declared.ids.ClassId.{ClassId}
 use Rattle.base_core.specs.declared.ids.ObjId.{ObjId}
-use Rattle.base_core.specs.declared.ids.RelNo.{RelNo}
 use Rattle.base_core.specs.declared.value.Value.{Value}
 use Rattle.expr_types.specs.declared.expr.Origin.{Origin}
 use Rattle.expr_types.specs.declared.select.ObjectQuery.{ObjectQuery}
@@ -13,7 +12,7 @@ use Rattle.keeper_core.specs.Programs.{Run, ◌>>=◌, give}
 use Rattle.keeper_core.specs.Beside.{on_own}
 pub use Rattle.object_parts.specs.Lists.{firsts, with_first}
 use Rattle.load_columns.specs.Placing.{attribute_columns, from_root}
-use Rattle.load_selects.specs.Selects.{class_rows, item_of, origin_of}
+use Rattle.load_selects.specs.Selects.{item_of, origin_of}
 use Rattle.load_rows.specs.Loading.{Loading}
 use Rattle.load_calls.specs.Reading.{World, read}
 use Rattle.load_calls.specs.Collections.{take_rows}
@@ -26,10 +25,6 @@ pub record ReadsObjects (mapped : Mapped) (class : ClassId) (s : Select) : Type 
   pub more : List Origin
   pub items : s.items ≡ map item_of (attribute_columns mapped class (from_root 0))
   pub sources : sources_of s ≡ map origin_of (tables_of mapped class) ++ more
-
--- the query for all objects of a class, with joined options at places, and with places whose links are read by further selects
-abbrev pub every_object : Mapped → ClassId → List RelNo → List RelNo → ObjectQuery
-every_object mapped class joined selectin = record { class = class; select = class_rows mapped class []; joined = joined; selectin = selectin }
 
 -- the objects of rows where each comes first
 abbrev pub take_objects : Mapped → ClassId → List (List Value) → Loading → Run Loading (List ObjId)

@@ -3,6 +3,7 @@
 ghost use Rattle.std.specs.Prelude.{◌≡◌, ◌<◌, true, length, IfErr, IfOk, Ok};
 ghost use Rattle.std.specs.List.{All, AllByRecursion};
 ghost use Rattle.class_mapping.specs.Mapped.{IsClass, relations_of, root_of};
+ghost use Rattle.class_mapping.specs.Related.{AreRelated};
 ghost use Rattle.object_arena.specs.Every.{classes_of};
 ghost use Rattle.object_arena.specs.Fit.{IsFit, is_of_root};
 ghost use Rattle.object_arena.specs.Graph.{Graph};
@@ -13,10 +14,10 @@ ghost use Rattle.sql_semantics.specs.Plain.{IsPlainSelect};
 ghost use Rattle.load_filling.specs.Growing.{Grows};
 ghost use Rattle.load_rows.specs.Loading.{loading};
 ghost use Rattle.main_selects.specs.MainSelect.{main_select};
-ghost use Rattle.joined_rows.specs.Parts.{IsJoinedRow, parts_of};
+ghost use Rattle.joined_rows.specs.Parts.{parts_of};
 ghost use Rattle.load_calls.specs.Reading.{IsReady, StaysReady, read};
-ghost use Rattle.load_calls.specs.Refusals.{CanRefuseRow, CanRefuseRows};
-ghost use Rattle.joined_rows.specs.Taking.{IsTaken};
+ghost use Rattle.load_calls.specs.Refusals.{CanRefuseQuery, CanRefuseRow, CanRefuseSelect};
+ghost use Rattle.joined_rows.specs.Taking.{IsJoinedRow, IsTaken};
 ghost use Rattle.load_queries.specs.Queries.{ReadsObjects};
 ghost use Rattle.load_queries.specs.Joined as spec;
 
@@ -45,9 +46,9 @@ fn parts_of_query(
     ensures parts { IfOk result
         (λ parts. parts ≡ parts_of mapping.now query.now.class query.now.joined) }
     ensures of { IfOk result (All (spec.IsPartOf mapping.now query.now.class)) }
-    ensures targets { IfOk result (All (λ part. IsClass mapping.now part.target)) }
+    ensures targets { IfOk result (λ parts. AreRelated mapping.now
+        → All (λ part. IsClass mapping.now part.target) parts) }
 {
-    let _ = mapping.schema();
     parts_of(alloc, mapping, query.class, query.joined.as_slice())
 }
 
@@ -72,7 +73,9 @@ fn read_rows<K: Keeper>(
     ensures stays { StaysReady (K.moment keeper.old) result (K.moment keeper.new) }
     ensures rows { IfOk result (AllByRecursion (IsJoinedRow mapping.now query.now.class
         (parts_of mapping.now query.now.class query.now.joined))) }
-    ensures refuses { IfErr result (CanRefuseRows mapping.now) }
+    ensures related { IfOk result (λ _. AreRelated mapping.now) }
+    ensures refuses { IfErr result
+        (CanRefuseSelect mapping.now (main_select mapping.now query.now)) }
 {
     rows_have_parts();
     let wanted = main_select(alloc, mapping, query)?;
@@ -138,7 +141,7 @@ fn take_answers(
         (λ object. is_of_root arena.new.roots (root_of mapping.now class) object ≡ true)) }
     ensures grows { Grows arena.old arena.new }
     ensures fits { IsFit mapping.now arena.new }
-    ensures refuses { IfErr result CanRefuseRow }
+    ensures refuses { IfErr result (CanRefuseRow mapping.now arena.new) }
 {
     let taken = take_joined(alloc, arena, mapping, class, parts, rows, notes)?;
     Ok(fill_taken(alloc, arena, mapping, class, parts, taken.as_slice(), notes)?)
@@ -180,7 +183,8 @@ pub fn load_joined<K: Keeper>(
     ensures stays { StaysReady (K.moment keeper.old) result (K.moment keeper.new) }
     ensures grows { Grows arena.old arena.new }
     ensures fits { IsFit mapping.now arena.new }
-    ensures refuses { IfErr result (CanRefuseRows mapping.now) }
+    ensures refuses { IfErr result
+        (CanRefuseQuery mapping.now arena.new (main_select mapping.now query.now)) }
 {
     let parts = parts_of_query(alloc, mapping, query)?;
     let rows = read_rows(alloc, mapping, keeper, query, notes)?;

@@ -20,19 +20,19 @@ use class_mapping::{Mapping, Relation};
 use keeper_core::{Keeper, Notes};
 use load_batches::load_members;
 use load_ends::load_ends;
-use load_rows::relation_at;
 use object_arena::Arena;
 use std::alloc::Global;
 
-/// The relationship at a place of a class.
+/// The relationship at a place of a class, which has one there, as the class above it has.
 pub(crate) fn related(mapping: &Mapping, class: ClassId, place: RelNo) -> &Relation
     requires class { IsClass mapping.now class }
-    requires place { place.0 < length (relations_of mapping.now class) }
+    requires place { HasPairs mapping.now
+        → place.0 < length (relations_of mapping.now class) }
     ensures is { result.now ≡ relation_of mapping.now class place }
     ensures related { IsRelated mapping.now result.now }
     ensures paired { HasPairs mapping.now }
 {
-    relation_at(mapping, class, place)
+    &mapping.relations(class)[place.0 as usize]
 }
 
 /// Loads the links of persistent owners at the place of a relationship, by its kind: those that are unloaded are read together and
@@ -64,7 +64,7 @@ pub fn load_together<K: Keeper>(
     ensures stays { StaysReady (K.moment keeper.old) result (K.moment keeper.new) }
     ensures grows { Grows arena.old arena.new }
     ensures fits { IsFit mapping.now arena.new }
-    ensures refuses { IfErr result (CanRefuseRows mapping.now) }
+    ensures refuses { IfErr result (CanRefuseRows mapping.now arena.new) }
 {
     if relation.many {
         return load_members(
@@ -109,9 +109,8 @@ pub fn load_selectin<K: Keeper>(
     ensures stays { StaysReady (K.moment keeper.old) result (K.moment keeper.new) }
     ensures grows { Grows arena.old arena.new }
     ensures fits { IsFit mapping.now arena.new }
-    ensures refuses { IfErr result (CanRefuseRows mapping.now) }
+    ensures refuses { IfErr result (CanRefuseRows mapping.now arena.new) }
 {
-    let _ = mapping.schema();
     match first_of(owners) {
         Some(first) => {
             let relation = related(mapping, arena.object(first).class, place);

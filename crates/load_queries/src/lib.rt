@@ -2,7 +2,6 @@
 //! its kind, and of the links that a query names: each is one program of the store and of the objects and notes beside it.
 #![tactic(auto)]
 
-mod every;
 mod filling;
 mod given;
 mod joined;
@@ -12,7 +11,6 @@ mod options;
 mod owners;
 mod queries;
 
-pub use every::{every_object, has_plain_select, let_go};
 pub use joined::load_joined;
 pub use kinds::{load_selectin, load_together};
 pub use options::{load_objects, load_options, load_query};

@@ -12,7 +12,7 @@ ghost use Rattle.load_filling.specs.Growing.{Grows};
 ghost use Rattle.load_rows.specs.Loading.{loading};
 ghost use Rattle.main_selects.specs.MainSelect.{main_select};
 ghost use Rattle.load_calls.specs.Reading.{IsReady, StaysReady};
-ghost use Rattle.load_calls.specs.Refusals.{CanRefuseRows};
+ghost use Rattle.load_calls.specs.Refusals.{CanRefuseQuery, CanRefuseRows};
 ghost use Rattle.load_queries.specs.Queries.{ReadsObjects};
 ghost use Rattle.load_queries.specs.Selectin as spec;
 
@@ -50,7 +50,7 @@ fn load_option<K: Keeper>(
     ensures stays { StaysReady (K.moment keeper.old) result (K.moment keeper.new) }
     ensures grows { Grows arena.old arena.new }
     ensures fits { IsFit mapping.now arena.new }
-    ensures refuses { IfErr result (CanRefuseRows mapping.now) }
+    ensures refuses { IfErr result (CanRefuseRows mapping.now arena.new) }
 {
     let relation = related(mapping, class, place);
     let owners = owners_among(alloc, &*arena, mapping, class, objects)?;
@@ -94,7 +94,7 @@ pub fn load_options<K: Keeper>(
     ensures stays { StaysReady (K.moment keeper.old) result (K.moment keeper.new) }
     ensures grows { Grows arena.old arena.new }
     ensures fits { IsFit mapping.now arena.new }
-    ensures refuses { IfErr result (CanRefuseRows mapping.now) }
+    ensures refuses { IfErr result (CanRefuseRows mapping.now arena.new) }
 {
     for place in places {
         load_option(alloc, arena, mapping, keeper, class, objects, *place, notes)?;
@@ -129,7 +129,7 @@ pub fn load_objects<K: Keeper>(
     ensures grows { Grows arena.old arena.new }
     ensures fits { IsFit mapping.now arena.new }
     ensures made { IfOk result (All (IsObject arena.new)) }
-    ensures refuses { IfErr result (CanRefuseRows mapping.now) }
+    ensures refuses { IfErr result (CanRefuseQuery mapping.now arena.new query.now.select) }
 {
     let objects = load_select(alloc, arena, mapping, keeper, query, notes)?;
     load_options(
@@ -174,7 +174,8 @@ pub fn load_query<K: Keeper>(
     ensures grows { Grows arena.old arena.new }
     ensures fits { IsFit mapping.now arena.new }
     ensures made { IfOk result (All (IsObject arena.new)) }
-    ensures refuses { IfErr result (CanRefuseRows mapping.now) }
+    ensures refuses { IfErr result
+        (CanRefuseQuery mapping.now arena.new (main_select mapping.now query.now)) }
 {
     let objects = load_joined(alloc, arena, mapping, keeper, query, notes)?;
     load_options(

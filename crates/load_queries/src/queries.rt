@@ -13,7 +13,7 @@ ghost use Rattle.load_filling.specs.Growing.{Grows};
 ghost use Rattle.load_rows.specs.Loading.{loading};
 ghost use Rattle.load_rows.specs.Reading.{IsRowOf};
 ghost use Rattle.load_calls.specs.Reading.{IsReady, StaysReady, read};
-ghost use Rattle.load_calls.specs.Refusals.{CanRefuseRow, CanRefuseRows};
+ghost use Rattle.load_calls.specs.Refusals.{CanRefuseQuery, CanRefuseRow, CanRefuseSelect};
 ghost use Rattle.load_queries.specs.Queries as spec;
 
 use base_core::{ClassId, ObjList, Refusal, RowList, RowValues};
@@ -42,7 +42,7 @@ fn read_rows<K: Keeper>(
         (loading graph notes.old, keeper.old) result (loading graph notes.new, keeper.new) }
     ensures stays { StaysReady (K.moment keeper.old) result (K.moment keeper.new) }
     ensures rows { IfOk result (AllByRecursion (IsRowOf mapping.now query.now.class)) }
-    ensures refuses { IfErr result (CanRefuseRows mapping.now) }
+    ensures refuses { IfErr result (CanRefuseSelect mapping.now query.now.select) }
 {
     read(alloc, mapping, keeper, &query.select, notes)
 }
@@ -65,7 +65,7 @@ fn take_objects(
         (λ object. is_of_root arena.new.roots (root_of mapping.now class) object ≡ true)) }
     ensures grows { Grows arena.old arena.new }
     ensures fits { IsFit mapping.now arena.new }
-    ensures refuses { IfErr result CanRefuseRow }
+    ensures refuses { IfErr result (CanRefuseRow mapping.now arena.new) }
 {
     let objects = take_rows(alloc, arena, mapping, class, rows, notes)?;
     Ok(firsts(alloc, objects.as_slice())?)
@@ -102,7 +102,7 @@ pub fn load_select<K: Keeper>(
         (root_of mapping.now query.now.class) object ≡ true)) }
     ensures grows { Grows arena.old arena.new }
     ensures fits { IsFit mapping.now arena.new }
-    ensures refuses { IfErr result (CanRefuseRows mapping.now) }
+    ensures refuses { IfErr result (CanRefuseQuery mapping.now arena.new query.now.select) }
 {
     let rows = read_rows(alloc, mapping, keeper, query, notes)?;
     take_objects(alloc, arena, mapping, rows.as_slice(), query.class, notes)

@@ -47,7 +47,7 @@ use Rattle.load_steps.specs.Steps.{AreLoadSteps, IsFound}
 use Rattle.load_steps.proofs.Based.{among_value, found_value}
 
 -- there are as many objects, or more
-grown_long : (old new : Graph) → Grows old new → length old.objects ≤ length new.objects
+pub grown_long : (old new : Graph) → Grows old new → length old.objects ≤ length new.objects
 unfolding classes_of
 grown_long old new grows =
     let f : Object → ClassId = λ object. object.class in
@@ -75,12 +75,12 @@ module _ (mapped : Mapped) (tables : held.Tables) where
   read_same object = record { rest = refl; long = refl; linked = refl; cells = λ attr within. inl refl; links = λ place. inl refl }
 
   -- a cell that is read, and then once more
-  cell_then : (found : Option Value) (was mid now : Cell) → IsReadCell found was mid → IsReadCell found mid now → IsReadCell found was now
+  pub cell_then : (found : Option Value) (was mid now : Cell) → IsReadCell found was mid → IsReadCell found mid now → IsReadCell found was now
   cell_then found was mid now first (inl same) = subst (IsReadCell found was) (sym same) first
   cell_then found was mid now (inl same) (inr filled) = inr (record { held = filled.held; is = filled.is; expired = sym (ap (λ (cell : Cell). cell.value) same) ∙ filled.expired; even = filled.even })
   cell_then found was mid now (inr first) (inr filled) = absurd (let never = sym (ap (λ (cell : Cell). cell.value) first.even) ∙ filled.expired in cc)
 
-  link_then : (was mid now : Link) → IsReadLink was mid → IsReadLink mid now → IsReadLink was now
+  pub link_then : (was mid now : Link) → IsReadLink was mid → IsReadLink mid now → IsReadLink was now
   link_then was mid now (inr unloaded) second = inr unloaded
   link_then was mid now (inl same) (inl still) = inl (still ∙ same)
   link_then was mid now (inl same) (inr unloaded) = inr (sym (ap is_unloaded same) ∙ unloaded)

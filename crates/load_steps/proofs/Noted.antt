@@ -57,10 +57,10 @@ below_last n m less apart = by (cases_lt m n)
 -- ---- an object that is put, and noted
 
 -- all but one object are noted since, or as they were
-abbrev AllBut : ObjId → Graph → Loading → Type 0
+abbrev pub AllBut : ObjId → Graph → Loading → Type 0
 AllBut object start own = (other : ObjId) → IsObject own.graph other → (other.0 ≡ object.0 → ⊥) → IsFilledIn other own.notes ⊎ IsAsBefore start own.graph other
 
-put_noted : (start : Graph) (object : ObjId) (new : Object) (own : Loading) → IsObject own.graph object → AllBut object start own
+pub put_noted : (start : Graph) (object : ObjId) (new : Object) (own : Loading) → IsObject own.graph object → AllBut object start own
     → AreNotedSince start (record { graph = with_object own.graph object new; notes = own.notes ++ note.Filled object ∷ [] })
 put_noted start object new own made all = λ other there. by other (other.0 == object.0) refl there
   where

@@ -48,11 +48,9 @@ End = Option ObjId
 
 -- ---- the select of a key
 
-pub key_plain : {E : Type 0} (mapped : Mapped) (class : ClassId) (key : List Value) (r : Result Select E) → HasHierarchies mapped → IsClass mapped class → key_fits mapped class key ≡ true → IfOk r (λ s. s ≡ key_select mapped class key)
-    → IfOk r (IsPlainSelect mapped.schema)
-key_plain mapped class key (Ok s) has less fits made =
+pub key_plain : (mapped : Mapped) (class : ClassId) (key : List Value) (select : Select) → HasHierarchies mapped → IsClass mapped class → key_fits mapped class key ≡ true → select ≡ key_select mapped class key → IsPlainSelect mapped.schema select
+key_plain mapped class key select has less fits made =
     subst (IsPlainSelect mapped.schema) (sym made) (key_is_plain mapped class key has less (sym (keys_alike mapped class key has (class_tables mapped class has less)) ∙ fits))
-key_plain mapped class key (Err e) has less fits made = tt
 
 -- what is answered to it are rows of the class
 pub key_rows : (mapped : Mapped) (class : ClassId) (key : List Value) (select : Select) (r : Result Rows Refusal) → HasHierarchies mapped → IsClass mapped class → select ≡ key_select mapped class key
@@ -72,6 +70,10 @@ first_is : (mapped : Mapped) (class : ClassId) (rows : Rows) (row : List Value) 
 unfolding take_first
 first_is mapped class [] row e = absurd cc
 first_is mapped class (first ∷ rows) row e = ap (taken mapped class) (same_Some first row e)
+
+pub first_row : (mapped : Mapped) (class : ClassId) (rows : Rows) (row : List Value) → AllByRecursion (IsRowOf mapped class) rows → slice_get rows 0 ≡ Some row → IsRowOf mapped class row
+first_row mapped class [] row all e = absurd cc
+first_row mapped class (first ∷ rows) row all e = subst (IsRowOf mapped class) (same_Some first row e) all.0
 
 pub first_taken : (mapped : Mapped) (class : ClassId) (rows : Rows) (row : List Value) (own mid : Loading) (object : ObjId) → slice_get rows 0 ≡ Some row → IsQuiet (λ (o : ObjId). o) (take_row mapped class row own) (Ok object) mid
     → Runs alone (λ (end : End). end) (take_first mapped class rows) own (Ok (Some object)) mid

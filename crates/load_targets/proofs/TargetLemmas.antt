@@ -195,13 +195,13 @@ end_chosen moment mapped graph object place is p = lazy_by moment mapped graph o
 -- ---- refusals
 
 -- what refuses rows never says that an object was deleted
-rows_show : (mapped : Mapped) (object : ObjId) (old new : Scene) (e : Refusal) → CanRefuseRows mapped e → IsShownDeleted mapped object old new e
-rows_show mapped object old new (ObjectDeletedError deleted) h = absurd h
-rows_show mapped object old new e h = tt
+rows_show : (mapped : Mapped) (object : ObjId) (old new : Scene) (graph : Graph) (e : Refusal) → CanRefuseRows mapped graph e → IsShownDeleted mapped object old new e
+rows_show mapped object old new graph (ObjectDeletedError deleted) h = absurd h
+rows_show mapped object old new graph e h = tt
 
-pub refused_show : {A : Type 0} (mapped : Mapped) (object : ObjId) (old new : Scene) (r : Result A Refusal) → IfErr r (CanRefuseRows mapped) → IfErr r (IsShownDeleted mapped object old new)
-refused_show mapped object old new (Ok x) h = tt
-refused_show mapped object old new (Err e) h = rows_show mapped object old new e h
+pub refused_show : {A : Type 0} (mapped : Mapped) (object : ObjId) (old new : Scene) (graph : Graph) (r : Result A Refusal) → IfErr r (CanRefuseRows mapped graph) → IfErr r (IsShownDeleted mapped object old new)
+refused_show mapped object old new graph (Ok x) h = tt
+refused_show mapped object old new graph (Err e) h = rows_show mapped object old new graph e h
 
-pub passed_show : {A : Type 0} (mapped : Mapped) (object : ObjId) (old new : Scene) (e : Refusal) (r : Result A Refusal) → IsErrAnd r (λ d. d ≡ e) → CanRefuseRows mapped e → IfErr r (IsShownDeleted mapped object old new)
-passed_show mapped object old new e r passed h = passed_refusal (IsShownDeleted mapped object old new) e r passed (rows_show mapped object old new e h)
+pub passed_show : {A : Type 0} (mapped : Mapped) (object : ObjId) (old new : Scene) (graph : Graph) (e : Refusal) (r : Result A Refusal) → IsErrAnd r (λ d. d ≡ e) → CanRefuseRows mapped graph e → IfErr r (IsShownDeleted mapped object old new)
+passed_show mapped object old new graph e r passed h = passed_refusal (IsShownDeleted mapped object old new) e r passed (rows_show mapped object old new graph e h)

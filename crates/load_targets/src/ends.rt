@@ -9,12 +9,11 @@ ghost use Rattle.object_arena.specs.Graph.{Graph, IsObject};
 ghost use Rattle.keeper_core.specs.Alone.{alone};
 ghost use Rattle.keeper_core.specs.Beside.{moment_beside};
 ghost use Rattle.keeper_core.specs.Moment.{Runs};
-ghost use Rattle.sql_semantics.specs.Plain.{IsPlainSelect};
-ghost use Rattle.mapping_laws.specs.Hierarchies.{HasHierarchies};
 ghost use Rattle.load_selects.specs.Selects.{key_select};
 ghost use Rattle.load_filling.specs.Growing.{Grows};
 ghost use Rattle.load_rows.specs.Loading.{loading};
 ghost use Rattle.load_rows.specs.Reading.{IsRowOf};
+ghost use Rattle.load_calls.specs.Refreshing.{CanRefuseCells};
 ghost use Rattle.load_calls.specs.Reading.{IsReady, StaysReady, read};
 ghost use Rattle.load_calls.specs.Refusals.{CanRefuseRow, CanRefuseRows};
 ghost use Rattle.load_targets.specs.Targets as spec;
@@ -22,31 +21,13 @@ ghost use Rattle.load_targets.specs.Targets as spec;
 use base_core::{ClassId, Key, ObjId, Refusal, RowList, Value};
 use class_layouts::has_class;
 use class_mapping::Mapping;
-use expr_types::Select;
 use keeper_core::{Keeper, Notes};
 use load_calls::read;
 use load_rows::take_row;
 use load_selects::key_select;
 use object_arena::Arena;
-use std::alloc::{AllocError, Global};
+use std::alloc::Global;
 use std::mem::drop;
-
-/// The select of the row of a class under a key.
-fn select_of_key(
-    alloc: Global,
-    mapping: &Mapping,
-    class: ClassId,
-    key: &Key,
-) -> Result<Select, AllocError>
-    requires class { IsClass mapping.now class }
-    requires key { key_fits mapping.now class key.now ≡ true }
-    ensures select { IfOk result (λ s. s ≡ key_select mapping.now class key.now) }
-    ensures plain { IfOk result (IsPlainSelect mapping.now.schema) }
-    ensures hierarchies { IfOk result (λ _. HasHierarchies mapping.now) }
-{
-    let _ = mapping.schema();
-    key_select(alloc, mapping, class, key)
-}
 
 /// The row of a class under a key, if there is one.
 fn read_key<K: Keeper>(
@@ -65,9 +46,9 @@ fn read_key<K: Keeper>(
         (loading graph notes.old, keeper.old) result (loading graph notes.new, keeper.new) }
     ensures stays { StaysReady (K.moment keeper.old) result (K.moment keeper.new) }
     ensures rows { IfOk result (AllByRecursion (IsRowOf mapping.now class)) }
-    ensures refuses { IfErr result (CanRefuseRows mapping.now) }
+    ensures refuses { IfErr result (CanRefuseCells mapping.now) }
 {
-    let wanted = select_of_key(alloc, mapping, class, key)?;
+    let wanted = key_select(alloc, mapping, class, key)?;
     let rows = read(alloc, mapping, keeper, &wanted, notes);
     drop(wanted);
     rows
@@ -91,7 +72,7 @@ fn take_first(
         (λ end. end_fits arena.new.roots (root_of mapping.now class) end ≡ true) }
     ensures grows { Grows arena.old arena.new }
     ensures fits { IsFit mapping.now arena.new }
-    ensures refuses { IfErr result CanRefuseRow }
+    ensures refuses { IfErr result (CanRefuseRow mapping.now arena.new) }
 {
     match rows.get(0) {
         Some(row) => {
@@ -130,7 +111,7 @@ pub fn load_key<K: Keeper>(
         (λ end. end_fits arena.new.roots (root_of mapping.now class) end ≡ true) }
     ensures grows { Grows arena.old arena.new }
     ensures fits { IsFit mapping.now arena.new }
-    ensures refuses { IfErr result (CanRefuseRows mapping.now) }
+    ensures refuses { IfErr result (CanRefuseRows mapping.now arena.new) }
 {
     let rows = read_key(alloc, mapping, keeper, class, key, notes)?;
     take_first(alloc, arena, mapping, class, &rows, notes)
@@ -188,7 +169,7 @@ pub fn find_or_load<K: Keeper>(
         (λ end. end_fits arena.new.roots (root_of mapping.now class) end ≡ true) }
     ensures grows { Grows arena.old arena.new }
     ensures fits { IsFit mapping.now arena.new }
-    ensures refuses { IfErr result (CanRefuseRows mapping.now) }
+    ensures refuses { IfErr result (CanRefuseRows mapping.now arena.new) }
 {
     if has_null(key.as_slice()) {
         return Ok(None);

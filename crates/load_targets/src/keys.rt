@@ -4,6 +4,7 @@ ghost use Rattle.std.specs.Prelude.{◌≡◌, true, is_none, IfOk};
 ghost use Rattle.std.specs.List.{position};
 ghost use Rattle.std.specs.Option.{option_copied};
 ghost use Rattle.schema_core.specs.Tables.{value_or_null};
+ghost use Rattle.class_mapping.specs.Configured.{IsConfigured};
 ghost use Rattle.class_mapping.specs.Mapped.{IsClass};
 ghost use Rattle.relations.specs.Parents.{is_column};
 ghost use Rattle.load_targets.specs.ForeignKeys as spec;
@@ -32,7 +33,7 @@ fn attr_named(attributes: &[Attribute], table: TableId, name: &Name) -> Result<A
 }
 
 /// The attributes of a class that are the columns of a relationship's foreign key, in the key's order; in the place of a column
-/// of which the class has no attribute, how many attributes it has.
+/// of which the class has no attribute, how many attributes it has. Of the mapping all was checked, as of each.
 #[tactic(auto, unfolding(crate::specs::ForeignKeys::foreign_attrs))]
 pub fn foreign_attrs(
     alloc: Global,
@@ -41,8 +42,9 @@ pub fn foreign_attrs(
     relation: &Relation,
 ) -> Result<ListOf<AttrNo>, AllocError>
     requires class { IsClass mapping.now class }
-    ensures { IfOk result
+    ensures attrs { IfOk result
         (λ attrs. attrs ≡ spec.foreign_attrs mapping.now class relation.now) }
+    ensures configured { IsConfigured mapping.now }
 {
     let mut attrs = ListOf::new(alloc);
     let attributes = mapping.attributes(class);

@@ -50,7 +50,7 @@ pub fn load_lazy<K: Keeper>(
     ensures stays { StaysReady (K.moment keeper.old) result (K.moment keeper.new) }
     ensures grows { Grows arena.old arena.new }
     ensures fits { IsFit mapping.now arena.new }
-    ensures refuses { IfErr result (CanRefuseLoad mapping.now object) }
+    ensures refuses { IfErr result (CanRefuseLoad mapping.now arena.new object) }
     ensures shown { IfErr result (IsShownDeleted mapping.now object
         (loading arena.old notes.old, K.moment keeper.old)
         (loading arena.new notes.new, K.moment keeper.new)) }

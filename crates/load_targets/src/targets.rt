@@ -84,7 +84,6 @@ pub fn target_key(
     ensures fits { IfOk result (λ key. has_null key ≡ false
         → key_fits mapping.now relation.now.target key ≡ true) }
 {
-    let _ = mapping.schema();
     let _ = place;
     let record = arena.object(child);
     let attrs = foreign_attrs(alloc, mapping, record.class, relation)?;
@@ -118,7 +117,7 @@ fn read_target<K: Keeper>(
         (root_of mapping.now relation.now.target) end ≡ true) }
     ensures grows { Grows arena.old arena.new }
     ensures fits { IsFit mapping.now arena.new }
-    ensures refuses { IfErr result (CanRefuseRows mapping.now) }
+    ensures refuses { IfErr result (CanRefuseRows mapping.now arena.new) }
 {
     let key = target_key(alloc, &*arena, mapping, relation, child, place)?;
     find_or_load(alloc, arena, mapping, keeper, relation.target, &key, notes)
@@ -154,7 +153,7 @@ pub fn load_target<K: Keeper>(
     ensures stays { StaysReady (K.moment keeper.old) result (K.moment keeper.new) }
     ensures grows { Grows arena.old arena.new }
     ensures fits { IsFit mapping.now arena.new }
-    ensures refuses { IfErr result (CanRefuseLoad mapping.now child) }
+    ensures refuses { IfErr result (CanRefuseLoad mapping.now arena.new child) }
     ensures shown { IfErr result (IsShownDeleted mapping.now child
         (loading arena.old notes.old, K.moment keeper.old)
         (loading arena.new notes.new, K.moment keeper.new)) }

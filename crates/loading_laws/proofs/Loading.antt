@@ -12,4 +12,5 @@ pub mod Settled
 pub mod Joining
 pub mod Related
 pub mod Whole
+pub mod Alike
 pub mod Strategies

@@ -8,6 +8,7 @@
 //! `s123` sets link 2 of object 1 to object 3, `a123` and `r123` append it and remove it. `gu1` asks for the closure of object 1
 //! along save-update (`x` for refresh-expire, `p` for expunge, `d` for delete), and `gu13` for what is reached from 1 and 3.
 //! `w1` marks object 1 for deletion, `y125` puts 5 into cell 2 of object 1 as what its row holds too, and `f` asks what a flush decides.
+//! `b` reads what a flush is to know before, where of the tables that of nodes was made alone and has no row.
 //!
 //! A line of the output has the answer, and behind each object's number its links: `.` for an unset one, the others as the
 //! acts have them; `!` behind the number of an orphan. Of a closure it has the objects, and of a flush the
@@ -16,6 +17,7 @@
 
 mod mapping;
 mod play;
+mod reading;
 mod told;
 
 use base_core::Refusal;

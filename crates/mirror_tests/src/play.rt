@@ -6,6 +6,7 @@ ghost use Rattle.object_arena.specs.Fit.{IsFit};
 ghost use Rattle.object_arena.specs.Graph.{IsObject};
 ghost use Rattle.relations.specs.Mirror.{is_unloaded, link_at};
 
+use crate::reading::read_before;
 use crate::told::{say_prepared, say_reached, told, word};
 use base_core::{AttrNo, ClassId, Key, ListOf, ObjId, ObjList, ObjSet, Refusal, RelNo, Value};
 use cascades::{Flag, delete_closure, expire_closure, expunge_closure, reached, save_closure};
@@ -410,6 +411,15 @@ fn tell_change(arena: &mut Arena, mapping: &Mapping, act: &[u8], page: &mut Page
     told(arena, page);
 }
 
+/// Reads what a flush is to know before, and tells the answer and the graph then.
+fn tell_read(arena: &mut Arena, mapping: &Mapping, page: &mut Page)
+    requires fit { IsFit mapping.now arena.old }
+{
+    let answer = read_before(page.alloc(), arena, mapping);
+    page.put(word(answer));
+    told(arena, page);
+}
+
 /// The graph after the acts of a line, and the answer to the last one, or the closure for which it asks.
 fn play(arena: &mut Arena, mapping: &Mapping, line: &str, page: &mut Page) -> Result<(), Refusal>
     requires fit { IsFit mapping.now arena.old }
@@ -425,6 +435,10 @@ fn play(arena: &mut Arena, mapping: &Mapping, line: &str, page: &mut Page) -> Re
         }
         if byte_at(act, 0) == b'f' {
             return tell_decided(arena, mapping, page);
+        }
+        if byte_at(act, 0) == b'b' {
+            tell_read(arena, mapping, page);
+            return Ok(());
         }
         prepare(page, arena, mapping, act)?;
     }

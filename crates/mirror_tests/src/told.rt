@@ -61,7 +61,7 @@ fn say_object(page: &mut Page, number: u32, object: &Object) {
     }
 }
 
-/// The answer to a change.
+/// The answer to a change, or to a reading.
 pub(crate) fn word(answer: Result<(), Refusal>) -> &'static str {
     match answer {
         Ok(()) => "Ok",
@@ -72,6 +72,8 @@ pub(crate) fn word(answer: Result<(), Refusal>) -> &'static str {
 fn word_of(refusal: &Refusal) -> &'static str {
     match refusal {
         Refusal::InvalidRequestError(kind) => word_of_kind(kind),
+        Refusal::ObjectDeletedError(_) => "ObjectDeletedError",
+        Refusal::OperationalError(_) => "OperationalError",
         _ => "?",
     }
 }

@@ -1,6 +1,7 @@
 pub mod Differing
 pub mod Exact
 mod FreeSteps
+mod KeptSteps
 mod OneObject
 mod PutSteps
 pub mod Scopes

@@ -1,3 +1,4 @@
+pub mod Kept
 pub mod Records
 pub mod Same
 pub mod Touched

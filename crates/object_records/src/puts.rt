@@ -67,7 +67,7 @@ fn put_record(arena: &mut Arena, object: ObjId, new: Object)
 
 #[tactic(auto, using(crate::proofs::PutSteps::puts))]
 /// An object gets other cells, as many as it has.
-fn put_cells(arena: &mut Arena, object: ObjId, cells: ListOf<Cell>)
+pub(crate) fn put_cells(arena: &mut Arena, object: ObjId, cells: ListOf<Cell>)
     requires object { IsObject arena.old object }
     requires long { length cells ≡ length (object_at arena.old object).cells }
     requires few { length cells ≤ 4294967295 }
@@ -99,7 +99,7 @@ fn put_cell(arena: &mut Arena, object: ObjId, place: usize, cell: Cell)
 
 #[tactic(auto, using(crate::proofs::PutSteps::puts))]
 /// An object gets other links, as many as it has.
-fn put_links(arena: &mut Arena, object: ObjId, links: ListOf<Link>)
+pub(crate) fn put_links(arena: &mut Arena, object: ObjId, links: ListOf<Link>)
     requires object { IsObject arena.old object }
     requires long { length links ≡ length (object_at arena.old object).links }
     requires few { length links ≤ 4294967295 }

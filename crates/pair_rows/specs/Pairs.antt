@@ -1,7 +1,7 @@
 -- The rows of secondary tables that are made and taken away: pairs of objects, as a set.
-use Rattle.std.specs.Prelude.{ℕ, Bool, true, false, not, ◌&&◌, ◌||◌, ◌==◌, List, [], ◌++◌, map, fold, slice_get, unwrap_or, Option, Some, is_some, if◌then◌else◌}
-use Rattle.std.specs.List.{enumerate_from, filter, flat_map}
-use Rattle.std.specs.BTreeSet.{insert_key}
+use Rattle.std.specs.Prelude.{◌≡◌, ℕ, Bool, true, false, not, ◌&&◌, ◌||◌, ◌==◌, List, [], ◌∷◌, ◌++◌, map, fold, slice_get, unwrap_or, Option, Some, is_some, if◌then◌else◌}
+use Rattle.std.specs.List.{enumerate_from, filter, flat_map, list_any}
+use Rattle.std.specs.BTreeSet.{BTreeSet, contains, insert_key}
 use Rattle.std.specs.declared.cmp.Ordering.{Ordering}
 use Rattle.std.specs.Ordering.{nat_cmp, ordering_then}
 use Rattle.base_core.specs.declared.ids.ObjId.{ObjId}
@@ -13,6 +13,7 @@ use Rattle.schema_core.specs.declared.changes.NewRow.{NewRow}
 use Rattle.schema_core.specs.declared.changes.RowCell.{RowCell}
 use Rattle.schema_core.specs.declared.changes.RowCell.TheVariants.{Given}
 use Rattle.schema_core.specs.declared.table.ColumnSpec.{ColumnSpec}
+use Rattle.schema_core.specs.Catalog.{Catalog}
 use Rattle.schema_core.specs.Tables.{given_value}
 use Rattle.class_types.specs.declared.mapped.Relation.{Relation}
 use Rattle.class_layouts.specs.Faults.{foreigns_in}
@@ -20,6 +21,8 @@ use Rattle.class_mapping.specs.Mapped.{Mapped, relations_of}
 use Rattle.object_arena.specs.declared.object.Link.{Link}
 use Rattle.object_arena.specs.declared.object.Link.TheVariants.{Unset, Unloaded, One, Many}
 use Rattle.object_arena.specs.Graph.{Graph, is_among, object_at}
+use Rattle.flush_order.specs.Orders.{place_of_gone}
+use Rattle.flush_order.specs.Sorted.{Place, place_cmp, same_place}
 use Rattle.object_rows.specs.declared.prepared.Prepared.{Prepared}
 use Rattle.object_rows.specs.Seen.{is_in_session, link_of, object_ids}
 use Rattle.object_rows.specs.Cells.{foreign_cell, or_first}
@@ -154,6 +157,24 @@ lost_row mapped graph pair = record { name = pair_name pair; base = map (λ colu
 unfoldable pub made_rows : Mapped → Graph → Prepared → List NewRow
 made_rows mapped graph prepared = map (made_row mapped graph (new_names mapped graph prepared)) (made_pairs mapped graph prepared)
 
--- a row for each pair that is taken away
+-- ---- one row for the pairs of one key
+
+-- one of the rows has the table and key
+abbrev pub has_row : Catalog → List GoneRow → Place → Bool
+has_row schema rows place = list_any (λ (other : GoneRow). same_place (place_of_gone schema other) place) rows
+
+-- rows with one more, unless one of them has its table and key
+abbrev pub with_first : Catalog → List GoneRow → GoneRow → List GoneRow
+with_first schema rows row = if has_row schema rows (place_of_gone schema row) then rows else (rows ++ row ∷ [])
+
+-- of the rows of one table and key the first
+abbrev pub first_rows : Catalog → List GoneRow → List GoneRow
+first_rows schema rows = fold (with_first schema) [] rows
+
+-- a set has the tables and keys of these rows
+pub record HasPlaces (schema : Catalog) (places : BTreeSet Place) (rows : List GoneRow) : Type 0 where
+  pub same : (place : Place) → contains place_cmp places place ≡ has_row schema rows place
+
+-- a row for each row that the pairs that are taken away are: two of them may be one
 unfoldable pub lost_rows : Mapped → Graph → Prepared → List GoneRow
-lost_rows mapped graph prepared = map (lost_row mapped graph) (lost_pairs mapped graph prepared)
+lost_rows mapped graph prepared = first_rows mapped.schema (map (lost_row mapped graph) (lost_pairs mapped graph prepared))

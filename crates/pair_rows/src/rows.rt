@@ -1,19 +1,28 @@
 //! The rows of pairs.
 
-ghost use Rattle.std.specs.Prelude.{◌≡◌, ◌++◌, ◌∷◌, [], map, IfOk, OnOk};
+ghost use Rattle.std.specs.Prelude.{◌≡◌, ◌||◌, ◌++◌, ◌∷◌, [], map, IfOk, OnOk};
+ghost use Rattle.std.specs.BTreeSet.{contains};
 ghost use Rattle.schema_core.specs.Tables.{given_value};
 ghost use Rattle.object_arena.specs.Fit.{IsFit};
 ghost use Rattle.object_writes.specs.Ready.{IsReady};
+ghost use Rattle.flush_order.specs.Orders.{place_of_gone};
+ghost use Rattle.flush_order.specs.Sorted.{Place as Placed, place_cmp, same_place};
 ghost use Rattle.pair_rows.specs.Pairs as spec;
 
 use crate::pairs::{Pair, lost_pairs, made_pairs};
-use base_core::{ListOf, Name, RowName, Value};
+use base_core::{Key, ListOf, Name, RowName, TableId, Value};
 use class_mapping::Mapping;
+use flush_order::push_key;
 use object_arena::Arena;
 use object_rows::{Prepared, RowNames};
 use object_writes::{Projection, columns_at};
 use schema_core::{ColumnSpec, GoneRow, NewRow, RowCell};
 use std::alloc::{AllocError, Global};
+use std::collections::BTreeSet;
+use std::mem;
+
+/// A row's table and key.
+type Place = (TableId, Key);
 
 /// The name of a pair's row, which has the object of the first foreign key.
 fn pair_name(pair: Pair) -> RowName
@@ -110,21 +119,73 @@ fn push_made(
     Ok(())
 }
 
-/// The rows that these pairs take away go behind others.
-fn push_lost(
-    out: &mut ListOf<GoneRow>,
+/// The table and key of a row that is taken away.
+fn place_of_gone(mapping: &Mapping, alloc: Global, row: &GoneRow) -> Result<Place, AllocError>
+    ensures { IfOk result (λ place. place ≡ place_of_gone mapping.now.schema row.now) }
+{
+    let table = row.name.table;
+    let mut key = Vec::new(alloc);
+    push_key(&mut key, columns_at(mapping, table), row.base.as_slice())?;
+    Ok((table, ListOf::from_vec(key)))
+}
+
+/// A table and key is one of a set.
+fn enter(places: &mut BTreeSet<Place>, place: Place) -> Result<(), AllocError>
+    ensures { OnOk result ((other : Placed) → contains place_cmp places.new other
+        ≡ (same_place place other || contains place_cmp places.old other)) }
+{
+    places.insert(place)?;
+    Ok(())
+}
+
+/// A row goes behind others, unless one of them has its table and key. A set has their tables and keys too.
+fn keep_first(
+    places: &mut BTreeSet<Place>,
+    rows: &mut ListOf<GoneRow>,
+    mapping: &Mapping,
+    alloc: Global,
+    row: GoneRow,
+) -> Result<(), AllocError>
+    requires { spec.HasPlaces mapping.now.schema places.old rows.old }
+    ensures rows { OnOk result (rows.new ≡ spec.with_first mapping.now.schema rows.old row) }
+    ensures places { OnOk result (spec.HasPlaces mapping.now.schema places.new rows.new) }
+{
+    let place = place_of_gone(mapping, alloc, &row)?;
+    if places.contains(&place) {
+        return Ok(());
+    }
+    enter(places, place)?;
+    rows.push(row)
+}
+
+/// The rows that these pairs take away, of those of one table and key the first.
+fn first_rows(
     projection: &Projection,
     alloc: Global,
     pairs: &[Pair],
-) -> Result<(), AllocError>
+) -> Result<ListOf<GoneRow>, AllocError>
     requires { projection.now.names.now ≡ [] }
-    ensures { OnOk result (out.new ≡ out.old ++ map (spec.lost_row
-        projection.now.mapping.now projection.now.arena.now) pairs.now) }
+    ensures { IfOk result (λ rows. rows ≡ spec.first_rows projection.now.mapping.now.schema
+        (map (spec.lost_row projection.now.mapping.now projection.now.arena.now) pairs.now)) }
 {
+    let mut places = BTreeSet::new(alloc);
+    let mut rows = ListOf::new(alloc);
     for pair in pairs {
-        out.push(lost_row(projection, alloc, *pair)?)?;
+        let row = lost_row(projection, alloc, *pair)?;
+        keep_first(&mut places, &mut rows, projection.mapping, alloc, row)?;
     }
-    Ok(())
+    Ok(rows)
+}
+
+/// Rows go behind others.
+fn append(out: &mut ListOf<GoneRow>, alloc: Global, rows: ListOf<GoneRow>) -> Result<(), AllocError>
+    ensures { OnOk result (out.new ≡ out.old ++ rows) }
+{
+    let mut all = mem::replace(out, ListOf::new(alloc)).into_vec();
+    let mut more = rows.into_vec();
+    let moved = all.append(&mut more);
+    *out = ListOf::from_vec(all);
+    moved
 }
 
 #[tactic(auto, unfolding(crate::specs::Pairs::made_rows))]
@@ -150,7 +211,9 @@ pub fn push_made_rows(
 
 #[tactic(auto, unfolding(crate::specs::Pairs::lost_rows))]
 /// The row of each pair that is taken away goes behind others, by table and objects: of one that was removed, where both
-/// objects are in the session and have keys, and of one that stood, where an object is to be deleted.
+/// objects are in the session and have keys, and of one that stood, where an object is to be deleted. Of pairs of one table and
+/// key the first has a row: a collection may still tell of an object that has left the session, and of another that stands for
+/// the same key now.
 pub fn push_lost_rows(
     out: &mut ListOf<GoneRow>,
     alloc: Global,
@@ -170,5 +233,6 @@ pub fn push_lost_rows(
         prepared,
         names: &names,
     };
-    push_lost(out, &projection, alloc, pairs.as_slice())
+    let rows = first_rows(&projection, alloc, pairs.as_slice())?;
+    append(out, alloc, rows)
 }

@@ -1,6 +1,7 @@
 -- The first refusal in reading order.
-use Rattle.std.proofs.Common.{◌≡◌, List, [], ◌∷◌, ◌++◌, Result, Ok, Err, refl, sym, ap, subst, append_assoc}
+use Rattle.std.proofs.Common.{◌≡◌, List, [], ◌∷◌, ◌++◌, Result, Ok, Err, refl, sym, ap, subst, append_assoc, ◌∙◌}
 use Rattle.std.specs.Prelude.{IfErr}
+use Rattle.std.specs.Result.{IsErrAnd}
 use Rattle.base_core.specs.declared.refusal.Refusal.{Refusal}
 use Rattle.base_core.specs.declared.refusal.Refusal.TheVariants.{Memory}
 use Rattle.base_core.specs.Answers.{Gives, Refuses}
@@ -12,6 +13,16 @@ use Rattle.script_resolve.specs.Refusals.{CanRefuse}
 pub refuses_then : {A B : Type 0} (e : Refusal) (told : Checked A) (next : A → Checked B) → Refuses e told → Refuses e (told >>= next)
 refuses_then Memory told next h = tt
 refuses_then e told next h = ap (λ t. t >>= next) h
+
+-- a refusal of the first part, passed on
+pub refused : {A B : Type 0} (r : Checked A) (e : Refusal) (told : Checked B) (next : B → Checked A) (whole : Checked A)
+    → whole ≡ (told >>= next) → IsErrAnd r (λ d. d ≡ e) → Refuses e told → Gives (λ (a : A). a) r whole
+refused (Ok a) e told next whole same is h = absurd is
+refused (Err d) e told next whole same is h = subst (λ f. Refuses f whole) (sym is) (subst (λ w. Refuses e w) (sym same) (refuses_then e told next h))
+
+-- the first part is given, and the next made of it
+pub given : {A B : Type 0} (told : Checked B) (next : B → Checked A) (whole : Checked A) (b : B) → whole ≡ (told >>= next) → told ≡ Ok b → whole ≡ next b
+given told next whole b same is = same ∙ ap (λ t. t >>= next) is
 
 refuses_pair : {A B : Type 0} (e : Refusal) (first : Checked A) (second : Checked B) → Refuses e first → Refuses e (pair_or_refusal first second)
 refuses_pair Memory first second h = tt

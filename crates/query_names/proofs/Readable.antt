@@ -50,7 +50,7 @@ use Rattle.known_queries.specs.Known.{BeginsWith, FindsColumns, ReadsJoined, fin
 use Rattle.known_queries.proofs.Attributes.{some_attribute}
 use Rattle.known_queries.proofs.Found.{fits_finds}
 use Rattle.load_queries.specs.Queries.{ReadsObjects}
-use Rattle.select_laws.proofs.KeptFolds.{KeepsTest, every_keeps, every_step, kept}
+use Rattle.select_laws.proofs.KeptFolds.{at_columns, every_keeps, every_step, is_column, kept}
 use Rattle.script_types.specs.declared.expression.Syn.{Syn}
 use Rattle.script_types.specs.declared.select.SynQuery.{SynQuery}
 use Rattle.script_names.specs.Faults.{fault_if}
@@ -76,26 +76,15 @@ use Rattle.query_names.proofs.Standing.{joined_exist, selectin_exist}
 
 -- ---- normal forms
 
-finds_test : (schema : Catalog) → KeepsTest Scope (finds_column schema)
-finds_test schema = record {
-  ands = λ s xs. refl;
-  ors = λ s xs. refl;
-  nots = λ s a. refl;
-  likes = λ s g a b. refl;
-  ilikes = λ s g a b. refl;
-  lowers = λ s a. refl;
-  compares = λ s op a b. refl;
-  nulls = λ s g a. refl;
-  lists = λ s g a vs. refl;
-  ranges = λ s g a low high. refl;
-  distincts = λ s g a b. refl;
-  exist = λ s g o a. refl;
-}
+-- every level but a column finds its columns
+finds_elsewhere : (schema : Catalog) (scope : Scope) (level : Expr-F (Scope → Bool)) → is_column level ≡ false → finds_column schema scope level ≡ true
+finds_elsewhere schema scope (Expr-F.Column source column) other = absurd cc
+finds_elsewhere schema scope level other = refl
 
 -- the normal form finds the columns that the expression finds
 finds_kept : (schema : Catalog) (scope : Scope) (e : Expr) → finds_columns schema (normal e) scope ≡ finds_columns schema e scope
 unfolding finds_columns
-finds_kept schema scope e = ap (λ (f : Scope → Bool). f scope) (kept (Scope → Bool) (every_step enter (finds_column schema)) (every_keeps Scope enter (finds_column schema) (finds_test schema)) e)
+finds_kept schema scope e = ap (λ (f : Scope → Bool). f scope) (kept (Scope → Bool) (every_step enter (finds_column schema)) (every_keeps Scope enter (finds_column schema) (at_columns Scope (finds_column schema) (finds_elsewhere schema))) e)
 
 -- conditions of joins are in normal form
 conjoined_normal : (schema : Catalog) (sources : List Origin) (es : List Expr) → 1 ≤ length es → AllByRecursion (IsPart schema sources) es → normal (conjoined es) ≡ conjoined es

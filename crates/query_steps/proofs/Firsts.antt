@@ -1,6 +1,6 @@
 -- One more row among those that were seen.
 use Rattle.std.proofs.Common.{◌≡◌, Bool, true, false, not, List, [], ◌∷◌, ◌++◌, ◌||◌, cond, refl, ap, sym, ◌∙◌}
-use Rattle.std.proofs.Math.Bool.{or-false}
+use Rattle.std.proofs.Math.Bool.{or-false, or_comm}
 use Rattle.std.proofs.lemmas.List.Folds.{list_any-append}
 use Rattle.std.proofs.lemmas.Map.Steps.{list_any_congr}
 use Rattle.std.specs.List.{list_any}
@@ -15,12 +15,6 @@ use Rattle.query_steps.specs.Seen.{HasSeen}
 
 same_row_equiv : IsEquivalence same_row
 same_row_equiv = eq_by_cmp_equiv (lists_total value_cmp_total)
-
-or_comm : (a b : Bool) → (a || b) ≡ (b || a)
-or_comm true true = refl
-or_comm true false = refl
-or_comm false true = refl
-or_comm false false = refl
 
 seen_before : (done : List Row) (r q : Row) (s : Bool) → list_any (same_row r) done ≡ true → same_row r q ≡ s → (s || list_any (same_row q) done) ≡ list_any (same_row q) done
 seen_before done r q true h e = sym h ∙ list_any_congr same_row_equiv r q done e

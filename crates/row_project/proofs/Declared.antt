@@ -40,6 +40,7 @@ use Rattle.object_rows.specs.Rows as rows
 use Rattle.object_rows.specs.Seen.{is_in_session, keeps_rows, link_of, new_objects, object_ids}
 use Rattle.object_rows.proofs.ObjectSteps.{all_made}
 use Rattle.pair_rows.specs.Pairs as pairs
+use Rattle.pair_rows.proofs.FirstLemmas.{firsts_all}
 use Rattle.row_project.specs.Changes.{object_changes}
 use Rattle.row_project.specs.Ready.{AreDeclared}
 use Rattle.row_switches.proofs.Each.{all_append, all_filter, all_filter_map, all_flat_map, all_given, all_if, all_map, each_to, flat_map_given, map_given, numbered, numbers_below}
@@ -198,8 +199,9 @@ module _ (mapped : Mapped) (graph : Graph) (prepared : Prepared) (related : AreR
   unfolding pairs.lost_rows pairs.lost_pairs
   lost_declared =
       let list = flat_map (pairs.lost_of mapped graph prepared) (object_ids graph) in
-      all_map (IsPaired mapped) (λ (row : GoneRow). IsTable mapped.schema row.name.table) (pairs.lost_row mapped graph) (λ pair h. h) (pairs.as_set list)
-      (as_set_over mapped list (all_flat_map (IsObject graph) (IsPaired mapped) (pairs.lost_of mapped graph prepared) lost_over (object_ids graph) (objects_made graph)))
+      firsts_all (λ (row : GoneRow). IsTable mapped.schema row.name.table) mapped.schema (map (pairs.lost_row mapped graph) (pairs.as_set list))
+      (all_map (IsPaired mapped) (λ (row : GoneRow). IsTable mapped.schema row.name.table) (pairs.lost_row mapped graph) (λ pair h. h) (pairs.as_set list)
+      (as_set_over mapped list (all_flat_map (IsObject graph) (IsPaired mapped) (pairs.lost_of mapped graph prepared) lost_over (object_ids graph) (objects_made graph))))
 
   -- ---- without switches
 

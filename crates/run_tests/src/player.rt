@@ -1,7 +1,8 @@
 //! Plays lines.
 
-use failing_runs::{NOTHING, Run, ended, only, run_once};
+use failing_runs::{NOTHING, Run, ended, only, run_once, run_over_sqlite};
 use notations::{Page, Plays, parted};
+use sqlite_database::Database;
 use std::alloc::Global;
 use std::mem;
 
@@ -16,6 +17,14 @@ fn say_run(run: &Run, page: &mut Page) {
     page.put(std::str::from_utf8(run.sink.bytes()).unwrap_or("no text\n"));
     page.put_number("status ", u64::from(run.status.code()));
     page.push('\n');
+}
+
+/// Runs a script over the keeper over SQLite.
+pub(crate) fn say_over_sqlite<D: Database + Drop>(rt: HostRuntime, script: &str, page: &mut Page) {
+    match run_over_sqlite::<D>(rt, script) {
+        Ok(run) => say_run(&run, page),
+        Err(_) => page.lack(),
+    }
 }
 
 /// How the run ends in which the call of a kind with this number fails, as `ended` tells it beside the whole one.

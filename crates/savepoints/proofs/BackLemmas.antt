@@ -62,7 +62,7 @@ stands_under root key own standing = is_persistent standing.state && (own.0 == r
 
 -- ---- some place below
 
-below_from : (test : ℕ → Bool) (n j : ℕ) → j < n → test j ≡ true → any_below test n ≡ true
+pub below_from : (test : ℕ → Bool) (n j : ℕ) → j < n → test j ≡ true → any_below test n ≡ true
 below_from test zero j less h = absurd (omega arith)
 below_from test (suc n) j less h =
     ⊎_elim

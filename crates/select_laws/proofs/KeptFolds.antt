@@ -1,5 +1,5 @@
 -- A fold that says the same of the normal form as of the expression.
-use Rattle.std.proofs.Common.{◌≡◌, Bool, true, not, ◌&&◌, List, [], ◌∷◌, ◌++◌, map, Option, Some, None, refl, sym, ap, ◌∙◌}
+use Rattle.std.proofs.Common.{◌≡◌, Bool, true, false, not, ◌&&◌, List, [], ◌∷◌, ◌++◌, map, Option, Some, None, refl, sym, ap, ◌∙◌}
 use Rattle.std.proofs.Math.Bool.{and-true}
 use Rattle.std.proofs.lemmas.List.{map-append, append_assoc}
 use Rattle.std.proofs.lemmas.List.Folds.{list_all-append}
@@ -203,6 +203,31 @@ pub record KeepsTest (S : Type 0) (test : S → Expr-F (S → Bool) → Bool) : 
   pub ranges : (s : S) (g : Bool) (a low high : S → Bool) → test s (Expr-F.Between (not g) a low high) ≡ test s (Expr-F.Between g a low high)
   pub distincts : (s : S) (g : Bool) (a b : S → Bool) → test s (Expr-F.Distinct (not g) a b) ≡ test s (Expr-F.Distinct g a b)
   pub exist : (s : S) (g : Bool) (o : Origin) (a : S → Bool) → test s (Expr-F.Exists (not g) o a) ≡ test s (Expr-F.Exists g o a)
+
+abbrev pub is_column : {A : Type 0} → Expr-F A → Bool
+is_column (Expr-F.Column source column) = true
+is_column level = false
+
+-- nor does one that holds at every level but at columns
+module _ (S : Type 0) (test : S → Expr-F (S → Bool) → Bool) (holds : (s : S) (level : Expr-F (S → Bool)) → is_column level ≡ false → test s level ≡ true) where
+  alike : (s : S) (a b : Expr-F (S → Bool)) → is_column a ≡ false → is_column b ≡ false → test s a ≡ test s b
+  alike s a b first second = holds s a first ∙ sym (holds s b second)
+
+  pub at_columns : KeepsTest S test
+  at_columns = record {
+    ands = λ s xs. holds s (Expr-F.And xs) refl;
+    ors = λ s xs. holds s (Expr-F.Or xs) refl;
+    nots = λ s a. holds s (Expr-F.Not a) refl;
+    likes = λ s g a b. holds s (Expr-F.Like g a b) refl;
+    ilikes = λ s g a b. holds s (Expr-F.Ilike g a b) refl;
+    lowers = λ s a. holds s (Expr-F.Call Lower (a ∷ [])) refl;
+    compares = λ s op a b. alike s (Expr-F.Compare (opposite op) a b) (Expr-F.Compare op a b) refl refl;
+    nulls = λ s g a. alike s (Expr-F.IsNull (not g) a) (Expr-F.IsNull g a) refl refl;
+    lists = λ s g a vs. alike s (Expr-F.InList (not g) a vs) (Expr-F.InList g a vs) refl refl;
+    ranges = λ s g a low high. alike s (Expr-F.Between (not g) a low high) (Expr-F.Between g a low high) refl refl;
+    distincts = λ s g a b. alike s (Expr-F.Distinct (not g) a b) (Expr-F.Distinct g a b) refl refl;
+    exist = λ s g o a. alike s (Expr-F.Exists (not g) o a) (Expr-F.Exists g o a) refl refl;
+  }
 
 abbrev pub every_step : {S : Type 0} → (S → Origin → S) → (S → Expr-F (S → Bool) → Bool) → Expr-F (S → Bool) → S → Bool
 every_step enter test level scope = test scope level && list_all (λ holds. holds (scope_below enter scope level)) (operands level)

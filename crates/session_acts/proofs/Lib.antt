@@ -2,7 +2,7 @@ pub mod ActLemmas
 mod Guarding
 mod Outcomes
 mod Planned
-mod Ready
+pub mod Ready
 pub mod Savepoints
 mod Steps
 pub mod Unwritten

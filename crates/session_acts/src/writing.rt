@@ -1,7 +1,8 @@
 //! What a flush writes, and what success makes of the objects.
 
-ghost use Rattle.std.specs.Prelude.{◌≡◌, ◌<◌, [], length, IfErr, OnOk};
+ghost use Rattle.std.specs.Prelude.{◌≡◌, ◌<◌, length, IfErr, OnOk};
 ghost use Rattle.flush_order.specs.Ready.{AreInRange, AreReady};
+ghost use Rattle.graph_flushed.specs.Fitting.{AreClearable};
 ghost use Rattle.graph_flushed.specs.Flushed.{graph_flushed};
 ghost use Rattle.session_scopes.specs.SessionState.{IsInStep};
 ghost use Rattle.session_calls.specs.Calling.{IsSessionCall};
@@ -33,7 +34,7 @@ struct Settling<'a> {
 }
 
 impl<'a> ObjectStep for Settling<'a> {
-    ghost is_ready = { λ settling mapped graph. settling.prepared.now.cleared ≡ [] };
+    ghost is_ready = { λ settling mapped graph. AreClearable mapped graph settling.prepared.now };
 
     ghost after = { λ settling mapped graph. graph_flushed mapped
         settling.prepared.now settling.rows.now settling.keys.now graph };
@@ -73,7 +74,7 @@ fn write_rows<K: Keeper>(
     requires inside { 0 < length session.old.frames.scopes }
     requires range { AreInRange session.old.mapping.schema rows.now }
     requires ready { AreReady session.old.mapping.schema rows.now ready.now }
-    requires cleared { prepared.now.cleared ≡ [] }
+    requires clearable { AreClearable session.old.mapping session.old.graph prepared.now }
     ensures call { IsSessionCall K.moment (λ u. u)
         (spec.write_rows prepared.now rows.now)
         (session.old, keeper.old) result (session.new, keeper.new) }
@@ -106,7 +107,7 @@ fn write_warned<K: Keeper>(
     requires inside { 0 < length session.old.frames.scopes }
     requires range { AreInRange session.old.mapping.schema rows.now }
     requires ready { AreReady session.old.mapping.schema rows.now ready.now }
-    requires cleared { prepared.now.cleared ≡ [] }
+    requires clearable { AreClearable session.old.mapping session.old.graph prepared.now }
     ensures call { IsSessionCall K.moment (λ u. u)
         (spec.write_warned prepared.now rows.now)
         (session.old, keeper.old) result (session.new, keeper.new) }

@@ -41,7 +41,7 @@ use Rattle.object_rows.specs.Late.{late_keys}
 use Rattle.row_order.specs.Places.{first_places, least_left, order, order_or_cycle}
 use Rattle.flush_order.specs.Sorted.{sorted_numbers}
 use Rattle.flush_plan.specs.Planning.{late_in, plan}
-use Rattle.pair_rows.specs.Pairs.{Pair, as_set, has_key, is_made, is_parted, lost_by, lost_from, lost_of, lost_pairs, lost_row, lost_rows, made_by, made_from, made_of, made_pairs, made_row, made_rows, members_added, members_before, members_removed, pair_of, relations_at, without}
+use Rattle.pair_rows.specs.Pairs.{Pair, as_set, first_rows, has_key, is_made, is_parted, lost_by, lost_from, lost_of, lost_pairs, lost_row, lost_rows, made_by, made_from, made_of, made_pairs, made_row, made_rows, members_added, members_before, members_removed, pair_of, relations_at, without}
 use Rattle.row_project.specs.Warnings.{warnings}
 use Rattle.row_project.specs.Changes.{object_changes, rows_lost}
 use Rattle.row_partners.specs.Partners.{partners}
@@ -327,7 +327,7 @@ no_pair_made written =
 no_pair_lost : (written : Written) → lost_rows written.mapping (graph_written written) nothing_prepared ≡ []
 unfolding lost_rows lost_pairs
 no_pair_lost written =
-    ap (λ (pairs : List Pair). map (lost_row written.mapping (graph_written written)) (as_set pairs))
+    ap (λ (pairs : List Pair). first_rows written.mapping.schema (map (lost_row written.mapping (graph_written written)) (as_set pairs)))
     (nothing_joined (lost_of written.mapping (graph_written written) nothing_prepared) (object_ids (graph_written written)) (lost_none written))
 
 -- ---- no statement is planned

@@ -1,5 +1,6 @@
 pub mod Apart
 pub mod Columns
+pub mod KnownCells
 pub mod LateKeys
 pub mod Loose
 pub mod Passing

@@ -1,11 +1,12 @@
 -- When a flush answers, and the calls that flush.
 use Rattle.std.specs.Prelude.{◌≡◌, ◌<◌, ℕ, true, false, List, length, slice_get, slice_index_or, None, Some, Ok, Err}
-use Rattle.std.specs.List.{list_any}
+use Rattle.std.specs.List.{AllByRecursion, list_any}
 use Rattle.base_core.specs.declared.ids.ClassId.{ClassId}
 use Rattle.base_core.specs.declared.ids.TableId.{TableId}
 use Rattle.base_core.specs.declared.refusal.Refusal.TheVariants.{NotBuilt}
 use Rattle.base_core.specs.declared.value.Value.{Value}
 use Rattle.base_core.specs.declared.value.Value.TheVariants.{Null}
+use Rattle.schema_core.specs.declared.changes.GoneRow.{GoneRow}
 use Rattle.schema_core.specs.declared.table.ColumnSpec.{ColumnSpec}
 use Rattle.schema_core.specs.declared.table.ForeignSpec.{ForeignSpec}
 use Rattle.schema_core.specs.Catalog.{has_name, spec_of}
@@ -16,12 +17,11 @@ use Rattle.class_mapping.specs.Mapped.{Mapped, line_of, tables_of}
 use Rattle.mapping_laws.specs.Hierarchies.{HasHierarchies}
 use Rattle.object_arena.specs.declared.object.Object.{Object}
 use Rattle.object_arena.specs.Fit.{IsFit}
-use Rattle.object_arena.specs.Graph.{Graph, is_persistent}
-use Rattle.flush_order.specs.Orders.{delete_order, gone_rows, insert_order}
+use Rattle.object_arena.specs.Graph.{Graph, object_at}
+use Rattle.flush_order.specs.Orders.{delete_order, gone_rows, insert_order, place_of_gone}
 use Rattle.flush_plan.specs.Flushing.{Sofar}
 use Rattle.flush_plan.specs.Stating.{all_placed, guess, row_at, stated_tables}
-use Rattle.object_rows.specs.Rows.{key_or_none}
-use Rattle.session_laws.specs.Held.{placed_object}
+use Rattle.object_rows.specs.declared.prepared.Prepared.{Prepared}
 use Rattle.session_laws.specs.Plans.Laws.{changes_to_write}
 use Rattle.session_laws.specs.Plans.Premises.{IsClear}
 use Rattle.session_laws.specs.Graphs.{IsWellMapped}
@@ -55,19 +55,22 @@ HasNoOtherLinks mapped class table row =
     (number : ℕ) (column : ColumnSpec) → slice_get (spec_of mapped.schema table).columns number ≡ Some column → is_shown mapped.schema.tables mapped.classes (line_of mapped class) table column.name ≡ false
     → list_any (λ (foreign : ForeignSpec). has_name foreign.columns column.name) (spec_of mapped.schema table).foreigns ≡ true → slice_index_or row number Null ≡ Null
 
--- so do the rows of the objects that are to be deleted; where no class owns columns, all rows do
-abbrev pub DeletedHaveNoOtherLinks : Mapped → Graph → Tables → Type 0
-DeletedHaveNoOtherLinks mapped graph old =
-    (place : ℕ) (table : TableId) (row : List Value) → place < length graph.objects → is_persistent (placed_object graph place).state ≡ true → (placed_object graph place).marked ≡ true
-    → is_among (tables_of mapped (placed_object graph place).class) table ≡ true → row_at old (table, key_or_none (placed_object graph place).identity) ≡ Some row
-    → HasNoOtherLinks mapped (placed_object graph place).class table row
+-- so does what stands under the key of a deleted row of an object, in a table of its class
+abbrev pub StandsWithoutOtherLinks : Mapped → Graph → Tables → GoneRow → Type 0
+StandsWithoutOtherLinks mapped graph old gone =
+    (row : List Value) → is_among (tables_of mapped (object_at graph gone.name.object).class) gone.name.table ≡ true → row_at old (place_of_gone mapped.schema gone) ≡ Some row
+    → HasNoOtherLinks mapped (object_at graph gone.name.object).class gone.name.table row
+
+-- so do all rows that are deleted, and not switched; where no class owns columns, all rows do
+abbrev pub DeletedHaveNoOtherLinks : Mapped → Graph → Prepared → Tables → Type 0
+DeletedHaveNoOtherLinks mapped graph prepared old = AllByRecursion (StandsWithoutOtherLinks mapped graph old) (project mapped graph prepared).gone
 
 -- A healthy session in which no rollback is awaited and no orphan waits, and whose objects state tables that can be written. What the
 -- rows of those that are to be deleted hold in foreign keys is known.
 pub record MayBeWritten (world : World) (after : Tables) : Type 0 where
   pub healthy : IsHealthy world
   pub whole : IsWhole world
-  pub links : DeletedHaveNoOtherLinks world.own.mapping world.own.graph world.store.tables
+  pub links : DeletedHaveNoOtherLinks world.own.mapping world.own.graph (prepared_of world.own.graph) world.store.tables
   pub well : world.own.failed ≡ false
   pub no_orphan : orphan_fault world.own ≡ None
   pub writable : IsWritable world.own.mapping world.own.graph world.store.tables after

@@ -28,7 +28,7 @@ use Rattle.flush_plan.specs.Flushing.{Sofar, send_all}
 use Rattle.flush_plan.specs.Planning.{plan}
 use Rattle.flush_plan.specs.Stating.{all_placed, guess, row_at, stated_tables}
 use Rattle.object_rows.specs.declared.prepared.Prepared.{Prepared}
-use Rattle.object_rows.specs.Rows.{gone_row, gone_rows, is_discriminator, key_or_none}
+use Rattle.object_rows.specs.Rows.{gone_row, is_discriminator, key_or_none}
 use Rattle.pair_rows.specs.Pairs.{lost_rows}
 use Rattle.session_laws.specs.Plans.Laws.{AreAsRead, IsOneKind, IsProjected, before, cells_named, changes_to_write}
 use Rattle.session_laws.specs.Plans.Premises.{IsClear, IsSorted}
@@ -99,12 +99,11 @@ pub record HaveOwnRows (mapped : Mapped) (graph : Graph) (prepared : Prepared) :
   pub fit : object_fit.IsFit mapped graph
   pub keyed : AreKeyed mapped graph prepared
 
--- the objects fit the mapping and have their own rows, and the tables hold the rows of those that are to be deleted as they were
--- read
+-- the objects fit the mapping and have their own rows, and the tables hold the rows that are deleted as they were read
 pub record IsTold (mapped : Mapped) (graph : Graph) (prepared : Prepared) (old : Tables) : Type 0 where
   pub fit : object_fit.IsFit mapped graph
   pub keyed : AreKeyed mapped graph prepared
-  pub read : AllByRecursion (IsAsRead mapped.schema old) (gone_rows mapped graph prepared)
+  pub read : AllByRecursion (IsAsRead mapped.schema old) (project mapped graph prepared).gone
 
 -- The tables are legal, and so are those that the changes state, for which the new rows have an order and their keys can be
 -- generated. No unique value of an old row is held by another row then, and no foreign key that is given as a value equals
@@ -136,7 +135,7 @@ abbrev pub ChangesAreProjected : Type 0
 ChangesAreProjected =
     (mapped : Mapped) (graph : Graph) (prepared : Prepared) → IsWellMapped mapped → HaveOwnRows mapped graph prepared → IsProjected mapped.schema (project mapped graph prepared)
 
--- and the deleted rows that stand are as they were read, where those of objects are
+-- and the deleted rows that stand are as they were read
 abbrev pub DeletedAreAsRead : Type 0
 DeletedAreAsRead =
     (mapped : Mapped) (graph : Graph) (prepared : Prepared) (old : Tables) → IsWellMapped mapped → IsTold mapped graph prepared old → Legal mapped.schema old

@@ -6,6 +6,7 @@ pub mod Flushes
 pub mod Graphs
 pub mod Health
 pub mod Held
+pub mod KnownCells
 pub mod LinkCalls
 pub mod Links
 pub mod Loads

@@ -9,7 +9,7 @@ use Rattle.schema_core.specs.Tables.{Tables}
 use Rattle.object_arena.specs.declared.object.Cell.{Cell}
 use Rattle.object_arena.specs.declared.object.Object.{Object}
 use Rattle.object_arena.specs.Fit.{IsFit}
-use Rattle.object_arena.specs.Graph.{Graph, cell_in, place_of}
+use Rattle.object_arena.specs.Graph.{Graph, cell_in, expired_cell, place_of}
 use Rattle.object_arena.specs.Identity.{IsGraph}
 use Rattle.keeper_core.specs.declared.notes.Note.{Note}
 use Rattle.keeper_core.specs.declared.notes.Note.TheVariants.{Filled}
@@ -44,16 +44,31 @@ pub record IsFilledCell (found : Option Value) (was now : Cell) : Type 0 where
 abbrev pub IsReadCell : Option Value → Cell → Cell → Type 0
 IsReadCell found was now = (now ≡ was) ⊎ IsFilledCell found was now
 
--- an object of which at most expired cells were read, and links loaded
-pub record IsReadFrom (mapped : Mapped) (tables : Tables) (was now : Object) : Type 0 where
+-- the row's value of a cell was not known, and the cell is left as an expired one is
+pub record IsLostCell (found : Option Value) (was now : Cell) : Type 0 where
+  pub unknown : was.base ≡ None
+  pub left : IsReadCell found expired_cell now
+
+-- a cell is read, or what was put into it is lost: so it is where all that is to be known of an object is read
+abbrev pub IsRereadCell : Option Value → Cell → Cell → Type 0
+IsRereadCell found was now = IsReadCell found was now ⊎ IsLostCell found was now
+
+-- an object of which at most cells were read so, and links loaded
+pub record IsReadBy (IsCell : Option Value → Cell → Cell → Type 0) (mapped : Mapped) (tables : Tables) (was now : Object) : Type 0 where
   pub rest : now ≡ record was { cells = now.cells; links = now.links }
   pub long : length now.cells ≡ length was.cells
   pub linked : length now.links ≡ length was.links
-  pub cells : (attr : AttrNo) → attr.0 < length now.cells → IsReadCell (row_value mapped tables now attr) (cell_in was attr) (cell_in now attr)
+  pub cells : (attr : AttrNo) → attr.0 < length now.cells → IsCell (row_value mapped tables now attr) (cell_in was attr) (cell_in now attr)
 
 -- an object that a load made under a key, and of which then at most that was read
+abbrev pub IsMadeBy : (Option Value → Cell → Cell → Type 0) → Mapped → Tables → Object → Type 0
+IsMadeBy IsCell mapped tables now = (key : List Value) × IsReadBy IsCell mapped tables (loaded_object mapped now.class key) now
+
+abbrev pub IsReadFrom : Mapped → Tables → Object → Object → Type 0
+IsReadFrom mapped tables was now = IsReadBy IsReadCell mapped tables was now
+
 abbrev pub IsMadeFrom : Mapped → Tables → Object → Type 0
-IsMadeFrom mapped tables now = (key : List Value) × IsReadFrom mapped tables (loaded_object mapped now.class key) now
+IsMadeFrom mapped tables now = IsMadeBy IsReadCell mapped tables now
 
 -- ---- all objects
 
@@ -65,12 +80,12 @@ pub record IsNotedAt (notes : List Note) (place : ℕ) : Type 0 where
 
 -- What a load leaves of the objects that there were, over these tables, with its notes. They fit, and one stands for each key; those that
 -- there were stand as they stood, and others were made behind them. Each that was made or that differs is noted.
-pub record IsLoadedFrom (mapped : Mapped) (tables : Tables) (old : Graph) (own : Loading) : Type 0 where
+pub record IsLoadedBy (IsCell : Option Value → Cell → Cell → Type 0) (mapped : Mapped) (tables : Tables) (old : Graph) (own : Loading) : Type 0 where
   pub fit : IsFit mapped own.graph
   pub graph : IsGraph own.graph.objects own.graph.roots
   pub grows : Grows old own.graph
-  pub read : (place : ℕ) → place < length old.objects → IsReadFrom mapped tables (object_in old place) (object_in own.graph place)
-  pub made : (place : ℕ) → length old.objects ≤ place → place < length own.graph.objects → IsMadeFrom mapped tables (object_in own.graph place)
+  pub read : (place : ℕ) → place < length old.objects → IsReadBy IsCell mapped tables (object_in old place) (object_in own.graph place)
+  pub made : (place : ℕ) → length old.objects ≤ place → place < length own.graph.objects → IsMadeBy IsCell mapped tables (object_in own.graph place)
   pub noted : (place : ℕ) → place < length own.graph.objects → IsNotedAt own.notes place ⊎ ((place < length old.objects) × (object_in own.graph place ≡ object_in old place))
 
 -- ---- what is touched
@@ -86,7 +101,11 @@ LoadsTouchTheNoted =
 
 -- what a load leaves of a session's objects, over the tables of the store
 abbrev pub IsLoadOf : World → Loading → Type 0
-IsLoadOf world own = IsLoadedFrom world.own.mapping world.store.tables world.own.graph own
+IsLoadOf world own = IsLoadedBy IsReadCell world.own.mapping world.store.tables world.own.graph own
+
+-- and what loads leave that read anew what is not known
+abbrev pub IsRereadOf : World → Loading → Type 0
+IsRereadOf world own = IsLoadedBy IsRereadCell world.own.mapping world.store.tables world.own.graph own
 
 -- the session has taken it in, and the store is as it was
 abbrev pub after_load : Loading → World → World
@@ -94,11 +113,11 @@ after_load own world = record { own = with_loaded own world.own; store = world.s
 
 -- in a transaction a sound session stays sound
 abbrev pub LoadsKeepSound : Type 0
-LoadsKeepSound = (own : Loading) (world : World) → in_transaction world.own ≡ true → IsLoadOf world own → IsSound world → IsSound (after_load own world)
+LoadsKeepSound = (own : Loading) (world : World) → in_transaction world.own ≡ true → IsRereadOf world own → IsSound world → IsSound (after_load own world)
 
 -- and a healthy one healthy
 abbrev pub LoadsKeepHealth : Type 0
-LoadsKeepHealth = (own : Loading) (world : World) → in_transaction world.own ≡ true → IsLoadOf world own → IsHealthy world → IsHealthy (after_load own world)
+LoadsKeepHealth = (own : Loading) (world : World) → in_transaction world.own ≡ true → IsRereadOf world own → IsHealthy world → IsHealthy (after_load own world)
 
 -- where what was loaded fits, the objects go on to fit, and had keys of their classes at the start of each scope
 abbrev pub LoadsKeepFit : Type 0
@@ -114,10 +133,10 @@ SessionsGoOn = (own : Loading) (session : SessionState) → Grows session.graph 
 abbrev pub loading_of : World → Beside Loading
 loading_of world = record { own = loading_in world.own; store = world.store }
 
--- the program leaves what a load leaves, and the store as it was, whatever it answers
+-- the program leaves what such loads leave, and the store as it was, whatever it answers
 pub record IsLoad {A : Type 0} (m : Beside Loading → Run (Beside Loading) A) (world : World) : Type 0 where
   pub store : (m (loading_of world)).after.store ≡ world.store
-  pub loads : IsLoadOf world (m (loading_of world)).after.own
+  pub loads : IsRereadOf world (m (loading_of world)).after.own
 
 -- a healthy session that is whole stays so, where it runs the program in a transaction
 abbrev pub LoadsKeepWhole : Type 0 → Type 0

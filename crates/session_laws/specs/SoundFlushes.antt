@@ -4,12 +4,11 @@ use Rattle.base_core.specs.declared.refusal.Refusal.{Refusal}
 use Rattle.object_arena.specs.declared.object.Object.{Object}
 use Rattle.object_arena.specs.Graph.{is_persistent}
 use Rattle.session_laws.specs.Graphs.{IsWellMapped}
-use Rattle.session_laws.specs.OwnRows.{ArePairsOnce}
 use Rattle.object_arena.specs.Fit.{IsFit}
 use Rattle.session_laws.specs.Held.{IsWhollyKnown, KeepsItsKey}
 use Rattle.table_laws.specs.Legality.{IsAscendingStore}
 use Rattle.session_calls.specs.Parts.{World}
-use Rattle.session_acts.specs.Flush.{flush, prepared_of}
+use Rattle.session_acts.specs.Flush.{flush}
 use Rattle.session_laws.specs.Sound.{EachObject, IsSound, IsWritten}
 
 -- a flush in a sound session, whatever it is refused for, leaves a sound one
@@ -18,8 +17,7 @@ RefusedFlushIsSound = (world : World) (e : Refusal) → 0 < length world.own.fra
 
 -- A session in a transaction, whose mapping is as every configured one is, with links, classes of several tables and
 -- discriminators as they may be, over tables that ascend, as do those at the start of each scope. Its objects fit their classes; the
--- key of a persistent object has not been changed, and of one that is to be deleted all is known. No two pairs that are taken away
--- are one row.
+-- key of a persistent object has not been changed, and of one that is to be deleted all is known.
 pub record IsToldSession (world : World) : Type 0 where
   pub inside : 0 < length world.own.frames.scopes
   pub well : IsWellMapped world.own.mapping
@@ -27,7 +25,6 @@ pub record IsToldSession (world : World) : Type 0 where
   pub fit : IsFit world.own.mapping world.own.graph
   pub keyed : EachObject (λ (object : Object). is_persistent object.state ≡ true → KeepsItsKey world.own.mapping object) world.own.graph
   pub known : EachObject (λ (object : Object). object.marked ≡ true → IsWhollyKnown object) world.own.graph
-  pub once : ArePairsOnce world.own.mapping world.own.graph (prepared_of world.own.graph)
 
 -- a flush that answers leaves a sound session, with nothing to be written
 abbrev pub ToldFlushIsSound : Type 0

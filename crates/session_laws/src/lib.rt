@@ -32,7 +32,7 @@ pub use complete_laws::{
     flushes_are_built, flushes_leave_the_stated_rows, stated_links_are_written,
     stated_objects_are_written,
 };
-pub use configured_laws::{is_well_mapped, plain_classes};
+pub use configured_laws::{plain_classes, well_mapped_tables};
 pub use graph_laws::{
     accepted_flushes_are_stated, changes_are_projected, flush_prefixes_are_legal,
     foreign_keys_are_of_one_kind, tables_and_discriminators,
@@ -55,10 +55,11 @@ pub use load_laws::{
     loads_touch_the_noted, sessions_go_on_across_loads,
 };
 pub use order::{numbers_are_by_place, order_or_cycle, runs_are_longest, runs_are_whole};
-pub use own_row_laws::{objects_have_own_rows, unlinked_pairs_are_once};
+pub use own_row_laws::{objects_have_own_rows, pairs_are_once};
 pub use project_laws::{
-    changed_cells_are_in_order, gone_rows_are_whole, key_parts_are_foreign, late_keys_are_fit,
-    new_rows_are_whole, new_rows_have_keys, passed_keys_are_switched, switches_keep_rows_apart,
+    changed_cells_are_in_order, found_cells_are_known, gone_rows_are_whole, key_parts_are_foreign,
+    late_keys_are_fit, new_rows_are_whole, new_rows_have_keys, passed_keys_are_switched,
+    switches_keep_rows_apart,
 };
 pub use scope_laws::{made_since_goes_back, restore_gives_the_start, touches_and_loads_only_grow};
 pub use second_flush_laws::{no_row_changes, no_row_is_new, no_statement_is_planned};

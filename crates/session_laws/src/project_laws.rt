@@ -1,6 +1,7 @@
 //! Laws of what a flush changes, over every mapping, every graph and every preparation.
 #![tactic(auto, using(crate::proofs::Projects::Rows::cells_in_order, crate::proofs::Projects::Rows::rows_whole, crate::proofs::Projects::Rows::bases_whole, crate::proofs::Projects::Rows::rows_keyed, crate::proofs::Projects::LateKeys::late_keys_fit, crate::proofs::Projects::Loose::parts_are_foreign, crate::proofs::Projects::Passing::keys_pass_once))]
 
+ghost use Rattle.session_laws.specs.KnownCells.{FoundValuesAreKnown, KnownValuesAreFound};
 ghost use Rattle.session_laws.specs.Projects.{ChangedCellsAreInOrder, GoneRowsAreWhole, KeyPartsAreForeign, LateKeysAreFit, NewRowsAreWhole, NewRowsHaveKeys, PassedKeysAreSwitched, SwitchesKeepRowsApart};
 
 /// A changed row names columns of its table in order, each once, and none of the key.
@@ -44,4 +45,12 @@ pub fn switches_keep_rows_apart()
 /// or another foreign key, where the mapping is valid and only links of many-to-one say that theirs is.
 pub fn late_keys_are_fit()
     ensures { LateKeysAreFit }
+{}
+
+/// What is found of a cell of a new row before keys are drawn is what is known of it: it is a value, or comes from a cell that is known
+/// through the keys of new rows. A value that comes so is found where it comes through none of them twice.
+#[tactic(auto, using(crate::proofs::Projects::KnownCells::found_known, crate::proofs::Projects::KnownCells::known_found))]
+pub fn found_cells_are_known()
+    ensures known { FoundValuesAreKnown }
+    ensures found { KnownValuesAreFound }
 {}

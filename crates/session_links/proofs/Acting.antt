@@ -11,7 +11,7 @@ use Rattle.base_core.specs.declared.refusal.RequestKind.TheVariants as request
 use Rattle.class_types.specs.declared.mapped.Relation.{Relation}
 use Rattle.class_mapping.specs.Mapped.{Mapped, partner_of, relations_of}
 use Rattle.object_arena.specs.Fit.{relation_of}
-use Rattle.object_arena.specs.Graph.{Graph, IsObject, either_fault, object_at}
+use Rattle.object_arena.specs.Graph.{Graph, IsObject, object_at}
 use Rattle.object_arena.specs.Identity.{IsGraph}
 use Rattle.keeper_core.specs.Alone.{IsOwn}
 use Rattle.keeper_core.specs.Store.{Store}
@@ -28,9 +28,10 @@ use Rattle.session_calls.specs.Calling.{IsSessionCall}
 use Rattle.session_calls.specs.Steps.{enter}
 use Rattle.session_calls.proofs.Joining.{err_call, then_call}
 use Rattle.session_objects.proofs.OutsiderLemmas.{StayInside, outsiders_conflict, outsiders_join}
+use Rattle.session_objects.specs.Conflicts.{conflict_fault}
 use Rattle.session_objects.specs.Steps.{IsDoneInside}
 use Rattle.session_objects.specs.Taking.{outsiders, session_joined}
-use Rattle.session_links.specs.Linking.{change_fault, coming_fault, coming_if, fault_by, session_by, session_changed, session_linked, unread_fault}
+use Rattle.session_links.specs.Linking.{change_fault, coming_if, fault_by, session_by, session_changed, session_linked}
 use Rattle.session_links.specs.Steps.{change_inside, change_link}
 
 -- ---- in the transaction
@@ -150,12 +151,11 @@ abbrev AreComing : Bool → SessionState → ObjId → RelNo → LinkCall → Li
 AreComing joins own owner place call objects = objects ≡ outsiders own.graph (coming_if joins own owner place call)
 
 pub fault_told : (own : SessionState) (owner : ObjId) (place : RelNo) (call : LinkCall) (change : Change) (objects : List ObjId) (fault : Option Refusal) → link_change own.graph own.mapping owner place call ≡ Ok change → IsGraph own.graph.objects own.graph.roots
-    → AreComing (is_some change.joined) own owner place call objects → fault ≡ coming_fault own owner place call objects → change_fault owner place call own ≡ fault
+    → AreComing (is_some change.joined) own owner place call objects → fault ≡ conflict_fault own.graph objects → change_fault owner place call own ≡ fault
 unfolding change_fault
 fault_told own owner place call change objects fault told graph is found =
     ap (fault_by own owner place call) told
-    ∙ sym (found ∙ ap (coming_fault own owner place call) is
-    ∙ ap (λ (f : Option Refusal). either_fault f (unread_fault own owner place call)) (outsiders_conflict own.graph (coming_if (is_some change.joined) own owner place call) graph))
+    ∙ sym (found ∙ ap (conflict_fault own.graph) is ∙ outsiders_conflict own.graph (coming_if (is_some change.joined) own owner place call) graph)
 
 -- nothing is against it
 pub changed_as : (owner : ObjId) (place : RelNo) (call : LinkCall) (change : Change) (objects : List ObjId) (child : ObjId) (own now : SessionState) → link_change own.graph own.mapping owner place call ≡ Ok change

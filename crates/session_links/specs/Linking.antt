@@ -3,16 +3,14 @@ use Rattle.std.specs.Prelude.{Bool, ◌&&◌, List, [], Option, None, Some, is_s
 use Rattle.base_core.specs.declared.ids.ObjId.{ObjId}
 use Rattle.base_core.specs.declared.ids.RelNo.{RelNo}
 use Rattle.base_core.specs.declared.refusal.Refusal.{Refusal}
-use Rattle.base_core.specs.declared.refusal.Refusal.TheVariants.{NotBuilt}
 use Rattle.object_arena.specs.Fit.{relation_of}
-use Rattle.object_arena.specs.Graph.{either_fault, object_at, with_link}
+use Rattle.object_arena.specs.Graph.{object_at, with_link}
 use Rattle.relations.specs.declared.calls.LinkCall.{LinkCall}
 use Rattle.relations.specs.declared.change.Change.{Change}
 use Rattle.relations.specs.declared.change.LinkPut.{LinkPut}
-use Rattle.relations.specs.Calls.{child_of, end_of, is_of_collection, link_change}
-use Rattle.relations.specs.Mirror.{is_unloaded, link_at, with_orphan}
+use Rattle.relations.specs.Calls.{child_of, end_of, link_change}
+use Rattle.relations.specs.Mirror.{with_orphan}
 use Rattle.session_scopes.specs.SessionState.{SessionState, with_graph}
-use Rattle.session_calls.specs.Parts.{fault_if}
 use Rattle.session_objects.specs.Conflicts.{conflict_fault}
 use Rattle.session_objects.specs.Taking.{coming_objects, is_inside, session_joined}
 
@@ -52,17 +50,10 @@ coming_along session owner place call change = coming_if (is_some change.joined)
 
 -- ---- the call
 
--- the members of a collection that is not loaded are to be read first, which is not built
-abbrev pub unread_fault : SessionState → ObjId → RelNo → LinkCall → Option Refusal
-unread_fault session owner place call = fault_if (is_of_collection call && is_unloaded (link_at session.graph owner place)) NotBuilt
-
--- what is against a change whose links can change: an identity that would come in twice, and then members that are not known
-abbrev pub coming_fault : SessionState → ObjId → RelNo → LinkCall → List ObjId → Option Refusal
-coming_fault session owner place call objects = either_fault (conflict_fault session.graph objects) (unread_fault session owner place call)
-
+-- the links can not change, or an identity would come in twice
 abbrev pub fault_by : SessionState → ObjId → RelNo → LinkCall → Result Change Refusal → Option Refusal
 fault_by session owner place call (Err fault) = Some fault
-fault_by session owner place call (Ok change) = coming_fault session owner place call (coming_along session owner place call change)
+fault_by session owner place call (Ok change) = conflict_fault session.graph (coming_along session owner place call change)
 
 -- why a link of an object is not changed
 unfoldable pub change_fault : ObjId → RelNo → LinkCall → SessionState → Option Refusal

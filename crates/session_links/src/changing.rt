@@ -1,13 +1,11 @@
 //! One link of an object is changed.
 
-ghost use Rattle.std.specs.Prelude.{◌≡◌, ◌<◌, None, Ok, OnOk, IfErr, IfOk, IfSome, length};
+ghost use Rattle.std.specs.Prelude.{◌≡◌, ◌<◌, None, Ok, OnOk, IfErr, IfOk, length};
 ghost use Rattle.base_core.specs.Answers.{Gives};
 ghost use Rattle.base_core.specs.declared.refusal.Refusal.TheVariants.{Memory};
 ghost use Rattle.class_mapping.specs.Mapped.{relations_of};
 ghost use Rattle.object_arena.specs.Fit.{relation_of};
 ghost use Rattle.object_arena.specs.Graph.{IsObject, object_at};
-ghost use Rattle.object_arena.specs.Identity.{IsGraph};
-ghost use Rattle.keeper_core.specs.Alone.{IsOwn};
 ghost use Rattle.relations.specs.Calls.{end_of, is_of_collection, link_change};
 ghost use Rattle.relations.specs.Fits.{ChangeFits};
 ghost use Rattle.relations.specs.Keys.{IsEnd};
@@ -26,7 +24,7 @@ use crate::places::relation_at;
 use crate::putting::put_change;
 use base_core::{ListOf, ObjId, ObjList, Refusal, RelNo};
 use keeper_core::Keeper;
-use relations::{Change, LinkCall, is_unloaded, link_change};
+use relations::{Change, LinkCall, link_change};
 use session_calls::enter;
 use session_objects::{coming_objects, conflict_fault, is_inside, take_all};
 use session_scopes::Session;
@@ -37,15 +35,15 @@ use std::alloc::AllocError;
 /// session with those that hang on it, it first and the others by number; the other side's cascades bring in nothing. An object is
 /// touched in the innermost scope where its record comes to differ.
 ///
-/// Nothing at all happens where the link leads there already and is loaded, or the member is there already.
+/// Nothing at all happens where the link leads there already and is loaded, or the member is there already. Where a collection is not
+/// loaded its members are not asked for: the change is kept for its load. Who wants it loaded first loads it.
 ///
 /// # Errors
 /// `PendingRollbackError` while a failed flush waits for its rollback; then, in the transaction, `InvalidRequestError` with the first
 /// that holds: `BadOwner` (the owner is deleted or detached), `BadMember` (the named object is, or is of no class at or under the
 /// link's target), `KeyChange` (a link over key columns of a persistent object would lead to an object that is no known old parent
 /// and does not keep the key), `NotAMember` (a collection whose members are known lacks the object that is to be taken out),
-/// `IdentityConflict` (an object that would come in is detached, and a persistent object or another one has its identity); last
-/// `NotBuilt` for a collection that is not loaded.
+/// `IdentityConflict` (an object that would come in is detached, and a persistent object or another one has its identity).
 pub fn change_link<K: Keeper>(
     session: &mut Session,
     keeper: &mut K,
@@ -147,7 +145,7 @@ fn change_links(
 {
     let objects = coming_along(session, owner, relation, call, change.joined.is_some())?;
     let coming = objects.as_slice();
-    match coming_fault(session, owner, relation, call, coming) {
+    match conflict_fault(session, coming) {
         Some(fault) => Err(fault),
         None => Ok(put_all(session, call.child(owner), change, coming)?),
     }
@@ -211,37 +209,4 @@ fn brings_in(session: &Session, owner: ObjId, relation: RelNo) -> bool
 {
     is_inside(session.object(owner).state)
         && relation_at(session, owner, relation).cascade.save_update
-}
-
-/// What is against a change whose links can change: an identity that would come in twice, and then members that are not known.
-fn coming_fault(
-    session: &Session,
-    owner: ObjId,
-    relation: RelNo,
-    call: LinkCall,
-    objects: &[ObjId],
-) -> Option<Refusal>
-    requires owner { IsObject session.now.graph owner }
-    requires once { AreOnce session.now.graph objects.now }
-    ensures fault { result ≡ spec.coming_fault session.now owner relation call objects.now }
-    ensures own { IfSome result IsOwn }
-    ensures free { result ≡ None → MayComeIn session.now.graph objects.now }
-    ensures graph { IsGraph session.now.graph.objects session.now.graph.roots }
-{
-    if let Some(fault) = conflict_fault(session, objects) {
-        return Some(fault);
-    }
-    if is_of_collection(call) && is_unloaded(session.arena(), owner, relation) {
-        return Some(Refusal::NotBuilt);
-    }
-    None
-}
-
-fn is_of_collection(call: LinkCall) -> bool
-    ensures { result ≡ is_of_collection call }
-{
-    match call {
-        LinkCall::Set(_parent) => false,
-        LinkCall::Append(_member) | LinkCall::Remove(_member) => true,
-    }
 }

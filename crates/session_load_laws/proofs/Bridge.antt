@@ -11,7 +11,7 @@ use Rattle.class_types.specs.declared.mapped.Attribute.{Attribute}
 use Rattle.class_mapping.specs.Mapped.{Mapped, attribute_of}
 use Rattle.object_arena.specs.declared.object.Cell.{Cell}
 use Rattle.object_arena.specs.declared.object.Object.{Object}
-use Rattle.object_arena.specs.Graph.{Graph, cell_in, place_of}
+use Rattle.object_arena.specs.Graph.{Graph, cell_in, expired_cell, place_of}
 use Rattle.object_arena.specs.Identity.{id_of_place}
 use Rattle.keeper_core.specs.declared.notes.Note.{Note}
 use Rattle.keeper_core.specs.declared.notes.Note.TheVariants.{Filled}
@@ -19,10 +19,11 @@ use Rattle.load_rows.specs.Loading.{Loading}
 use Rattle.load_steps.specs.Based.{held_under}
 use Rattle.load_steps.specs.Loaded as read
 use Rattle.load_steps.specs.Noted as noted
+use Rattle.preparing_laws.specs.Reread as anew
 use Rattle.load_steps.specs.Steps.{IsArena}
 use Rattle.session_laws.specs.Scopes.{object_in}
 use Rattle.session_laws.specs.Sound.{in_row, row_for}
-use Rattle.session_laws.specs.Loads.{IsLoadedFrom, IsMadeFrom, IsNotedAt, IsReadCell, IsReadFrom, row_value}
+use Rattle.session_laws.specs.Loads.{IsLoadedBy, IsMadeFrom, IsNotedAt, IsReadBy, IsReadCell, IsReadFrom, IsRereadCell, row_value}
 
 -- ---- what rows have
 
@@ -52,6 +53,22 @@ module _ (mapped : Mapped) (tables : Tables) where
     cells = λ attr less. cell_bridge (read.row_value mapped tables now attr) (row_value mapped tables now attr) (cell_in was attr) (cell_in now attr) (value_bridge now attr) (of.cells attr less);
   }
 
+  -- and of an object of which all that was not known is read anew
+  anew_bridge : (was now : Object) → anew.IsRereadFrom mapped tables was now → IsReadBy IsRereadCell mapped tables was now
+  anew_bridge was now of = record {
+    rest = of.rest;
+    long = of.long;
+    linked = of.linked;
+    cells = λ attr less. by attr (of.cells attr less);
+  }
+    where
+      gives : (attr : AttrNo) (value : Value) → read.row_value mapped tables now attr ≡ Some value → row_value mapped tables now attr ≡ Some value
+      gives attr value is = value_bridge now attr value is
+
+      by : (attr : AttrNo) → anew.IsRereadCell (read.row_value mapped tables now attr) (cell_in was attr) (cell_in now attr) → IsRereadCell (row_value mapped tables now attr) (cell_in was attr) (cell_in now attr)
+      by attr (inl cell) = inl (cell_bridge (read.row_value mapped tables now attr) (row_value mapped tables now attr) (cell_in was attr) (cell_in now attr) (gives attr) cell)
+      by attr (inr lost) = inr (record { unknown = lost.unknown; left = cell_bridge (read.row_value mapped tables now attr) (row_value mapped tables now attr) expired_cell (cell_in now attr) (gives attr) lost.left })
+
   made_bridge : (now : Object) → read.IsMadeFrom mapped tables now → IsMadeFrom mapped tables now
   made_bridge now made = (made.key, read_bridge _ now made.read)
 
@@ -79,12 +96,22 @@ module _ (mapped : Mapped) (tables : Tables) where
 
   -- ---- all objects
 
-  pub loaded_bridge : (old : Graph) (own : Loading) → IsArena mapped own.graph → read.AreReadFrom mapped tables old own.graph → noted.AreNotedSince old own → IsLoadedFrom mapped tables old own
+  pub loaded_bridge : (old : Graph) (own : Loading) → IsArena mapped own.graph → read.AreReadFrom mapped tables old own.graph → noted.AreNotedSince old own → IsLoadedBy IsReadCell mapped tables old own
   loaded_bridge old own arena of since = record {
     fit = arena.fit;
     graph = arena.graph;
     grows = of.grows;
     read = λ place less. read_bridge (object_in old place) (object_in own.graph place) (of.read place less);
     made = λ place least less. made_bridge (object_in own.graph place) (of.made place least less);
+    noted = λ place less. noted_bridge old own place since less;
+  }
+
+  pub reread_bridge : (old : Graph) (own : Loading) → IsArena mapped own.graph → anew.AreRereadFrom mapped tables old own.graph → noted.AreNotedSince old own → IsLoadedBy IsRereadCell mapped tables old own
+  reread_bridge old own arena of since = record {
+    fit = arena.fit;
+    graph = arena.graph;
+    grows = of.grows;
+    read = λ place less. anew_bridge (object_in old place) (object_in own.graph place) (of.read place less);
+    made = λ place least less. let made = of.made place least less in (made.key, anew_bridge _ (object_in own.graph place) made.read);
     noted = λ place less. noted_bridge old own place since less;
   }

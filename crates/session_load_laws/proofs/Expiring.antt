@@ -28,12 +28,10 @@ use Rattle.session_scopes.proofs.SessionLemmas.{goes_more, goes_on}
 use Rattle.session_calls.specs.Parts.{World}
 use Rattle.session_loads.specs.Expiring.{all_expired, session_expired, with_expired}
 use Rattle.session_loads.specs.Rows.{all_attrs, attrs_of}
-use Rattle.session_laws.specs.Health.Health.{IsOrderly, is_named}
 use Rattle.session_laws.specs.Sound.{IsFresh, IsMarkedRight, IsSettled, IsWritten}
 use Rattle.session_laws.specs.Whole.{IsHale}
 use Rattle.session_laws.proofs.Health.Named.{each_with}
-use Rattle.session_laws.proofs.Health.Objects.{expired_orderly}
-use Rattle.session_laws.proofs.Health.Sessions.{put_orderly}
+use Rattle.session_laws.proofs.Health.Sessions.{if_named, if_orderly, if_settled, put_orderly}
 use Rattle.session_laws.proofs.Sound.Changes.{changed_sound}
 use Rattle.session_laws.proofs.Sound.Everyone.{expired_cells}
 use Rattle.session_laws.proofs.Sound.Touches.{between_scopes}
@@ -63,18 +61,6 @@ if_fresh mapped tables false o fresh = fresh
 if_marked : (is_read : Bool) (o : Object) → IsMarkedRight o → IsMarkedRight (expired_if is_read o)
 if_marked true o right = right
 if_marked false o right = right
-
-if_orderly : (mapped : Mapped) (is_read : Bool) (o : Object) → o.marked ≡ false → IsOrderly mapped o → IsOrderly mapped (expired_if is_read o)
-if_orderly mapped true o unmarked orderly = expired_orderly mapped o unmarked
-if_orderly mapped false o unmarked orderly = orderly
-
-if_named : (is_read : Bool) (o : Object) → is_named o.state o.identity ≡ true → is_named (expired_if is_read o).state (expired_if is_read o).identity ≡ true
-if_named true o named = named
-if_named false o named = named
-
-if_settled : (is_read : Bool) (o : Object) → IsSettled o → IsSettled (expired_if is_read o)
-if_settled true o settled = record { settled = settled.settled; unmarked = settled.unmarked }
-if_settled false o settled = settled
 
 if_fits : (mapped : Mapped) (roots : List ClassId) (is_read : Bool) (o : Object) → FitsIn mapped roots o → FitsIn mapped roots (expired_if is_read o)
 if_fits mapped roots true o fits = expired_fits mapped roots o fits

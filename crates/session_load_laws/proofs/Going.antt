@@ -17,7 +17,8 @@ use Rattle.session_links.specs.Steps.{change_inside, change_link}
 use Rattle.session_acts.specs.Steps.{flush_whole}
 use Rattle.session_laws.specs.LinkCalls.{IsLinkCall}
 use Rattle.session_laws.specs.Whole.{IsHale}
-use Rattle.session_laws.specs.Loads.{IsLoad, IsLoadOf, loading_of}
+use Rattle.session_laws.specs.Loads.{IsLoad, IsRereadOf, loading_of}
+use Rattle.session_laws.proofs.Loads.Objects.{loaded_anew}
 use Rattle.session_laws.proofs.Health.Acts.{FlushLeavesSound, FlushWritesAll, IsLed}
 use Rattle.session_laws.proofs.Whole.Inside.{IsWithin, change_within, enter_within, flush_within, goes_within, load_within}
 use Rattle.session_laws.proofs.Whole.Programs as keyed
@@ -52,7 +53,7 @@ load_going m first w it load = led_going first (on_load m w) (load_within m firs
 pub loaded_going : {A : Type 0} → LoadsLeaveLoaded → (load : Load) (m : Beside Loading → Run (Beside Loading) A) (first : SessionState) (w : World) → (m (loading_of w)).after ≡ loaded_by load w → MayLoad load w → IsWithin first w → IsLed (IsGoing first) (IsWithin first) (on_load m w)
 loaded_going loads load m first w is may it =
     let left = loads load w may it.hale in
-    load_going m first w it (record { store = ap (λ (d : Beside Loading). d.store) is ∙ left.1; loads = subst (IsLoadOf w) (sym (ap (λ (d : Beside Loading). d.own) is)) left.0 })
+    load_going m first w it (record { store = ap (λ (d : Beside Loading). d.store) is ∙ left.1; loads = subst (IsRereadOf w) (sym (ap (λ (d : Beside Loading). d.own) is)) (loaded_anew w (loaded_by load w).own left.0) })
 
 pub change_going : (owner : ObjId) (place : RelNo) (call : LinkCall) (first : SessionState) (w : World) → IsLinkCall w.own.mapping w.own.graph owner place call → IsWithin first w → IsGoing first (change_inside owner place call w).after
 unfolding change_link

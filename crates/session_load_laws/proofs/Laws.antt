@@ -36,6 +36,7 @@ use Rattle.session_calls.specs.Parts.{World}
 use Rattle.session_laws.specs.Loads.{IsLoadOf, loading_of}
 use Rattle.session_laws.specs.Whole.{IsHale}
 use Rattle.session_laws.proofs.Loads.Laws.{loaded_hale}
+use Rattle.session_laws.proofs.Loads.Objects.{loaded_anew}
 use Rattle.session_laws.proofs.OwnRows.Standing.{hierarchies}
 use Rattle.session_load_laws.specs.Loads.{LoadsKeepSessionsWhole, LoadsLeaveLoaded, MayLoad, loaded_by, taken_in}
 use Rattle.session_load_laws.proofs.Bridge.{loaded_bridge}
@@ -128,4 +129,4 @@ pub whole_law : LoadsLeaveLoaded → LoadsKeepSessionsWhole
 whole_law law load world opened may hale =
     let left = law load world may hale in
     let own : Loading = (loaded_by load world).own in
-    subst (λ (store : Store). IsHale (taken_in (record { own = own; store = store }) world)) (sym left.1) (loaded_hale own world opened left.0 hale)
+    subst (λ (store : Store). IsHale (taken_in (record { own = own; store = store }) world)) (sym left.1) (loaded_hale own world opened (loaded_anew world own left.0) hale)

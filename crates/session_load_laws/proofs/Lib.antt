@@ -4,3 +4,4 @@ pub mod Going
 pub mod Expiring
 pub mod Anew
 pub mod Readings
+pub mod Preparing

@@ -73,7 +73,7 @@ on_class : (P : Mapped → ClassId → Type 0) (object : ObjId) (old new : Sessi
 on_class P object old new goes made is =
     subst (λ (class : ClassId). P new.mapping class) (sym (class_on object old new goes made)) (subst (λ (mapped : Mapped). P mapped (object_at old.graph object).class) (sym goes.mapping) is)
 
-place_on : (object : ObjId) (place : RelNo) (old new : SessionState) → GoesOn old new → IsPlace object place old → IsPlace object place new
+pub place_on : (object : ObjId) (place : RelNo) (old new : SessionState) → GoesOn old new → IsPlace object place old → IsPlace object place new
 place_on object place old new goes at = record {
   made = object_on object old new goes at.made;
   there = on_class (λ mapped class. place.0 < length (relations_of mapped class)) object old new goes at.made at.there;

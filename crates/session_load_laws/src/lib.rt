@@ -3,6 +3,7 @@
 #![tactic(auto)]
 
 ghost use Rattle.session_load_laws.specs.Loads.{LoadsKeepSessionsWhole, LoadsLeaveLoaded};
+ghost use Rattle.session_load_laws.specs.Preparing.{PreparationsKeepWhole, PreparationsLeaveReread};
 ghost use Rattle.session_load_laws.specs.Readings.{
   GetsTellMade,
   LinksTellMade,
@@ -11,6 +12,7 @@ ghost use Rattle.session_load_laws.specs.Readings.{
   ReadingsKeepWhole,
 };
 
+use preparing_laws::readings_only_reread;
 use ranked_rows::{
     main_selects_answer_table_rows, own_selects_answer_table_rows, selects_answer_table_rows,
 };
@@ -35,6 +37,17 @@ pub fn loads_keep_sessions_whole()
     ensures { LoadsKeepSessionsWhole }
 {
     loads_leave_loaded();
+}
+
+/// What is to be known before objects are deleted is read so that a whole session may take it in, whatever is answered: the store is as
+/// it was; of the objects at most cells and links were read, and what was put into a cell of which the row's value was not known is lost.
+/// In a transaction the session that takes that in stays whole.
+pub fn preparations_keep_sessions_whole()
+    ensures reread { PreparationsLeaveReread }
+    ensures whole { PreparationsKeepWhole }
+{
+    selects_answer_table_rows();
+    readings_only_reread();
 }
 
 /// Whatever a call answers that reads rows into objects, a whole session stays whole: the value of a cell, what a link leads to, the

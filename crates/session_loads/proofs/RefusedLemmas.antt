@@ -10,7 +10,7 @@ use Rattle.base_core.specs.declared.refusal.Refusal.TheVariants.{Memory}
 use Rattle.class_mapping.specs.Mapped.{Mapped, root_of}
 use Rattle.keeper_core.specs.Alone.{IsOwn}
 use Rattle.keeper_core.specs.Programs.{ends_early}
-use Rattle.object_arena.specs.Graph.{either_fault}
+use Rattle.object_arena.specs.Graph.{Graph, either_fault}
 use Rattle.object_arena.specs.Identity.{find_identity}
 use Rattle.relations.specs.declared.calls.LinkCall.{LinkCall}
 use Rattle.keeper_core.specs.Store.{Store}
@@ -40,7 +40,7 @@ calm_more a b c p q = (q.0 ∙ p.0, q.1 ∙ p.1)
 pub loaded_nothing : (session : SessionState) → IsLoadedFrom session session
 loaded_nothing session = record { goes = goes_itself session; rest = refl; scopes = refl }
 
-pub load_refused : {X : Type 0} (may : Mapped → Refusal → Type 0) (shows : Mapped → Scene → Scene → Refusal → Type 0) (old new : SessionState) (was now : Moment Store) (r : Result X Refusal) → IsLoadedFrom old new → IfErr r (λ e. (e ≡ Memory) ⊎ may old.mapping e)
+pub load_refused : {X : Type 0} (may : Mapped → Graph → Refusal → Type 0) (shows : Mapped → Scene → Scene → Refusal → Type 0) (old new : SessionState) (was now : Moment Store) (r : Result X Refusal) → IsLoadedFrom old new → IfErr r (λ e. (e ≡ Memory) ⊎ may old.mapping new.graph e)
     → IfErr r (λ e. (e ≡ Memory) ⊎ IsShownIn (shows old.mapping) old was new now e) → IfErr r (λ e. IsRefusedLoad may shows old was e new now)
 load_refused may shows old new was now (Ok x) left cause shown = tt
 load_refused may shows old new was now (Err e) left cause shown = record { left = left; cause = cause; shown = shown }
@@ -199,10 +199,10 @@ flushed_refused Then before inside again own mid new was late now r flushed calm
 
 -- only want of memory is in the way of its filling
 fill_by : (shows : Mapped → Scene → Scene → Refusal → Type 0) (Then : SessionState → Moment Store → Refusal → SessionState → Moment Store → Type 0) (inside : Option Refusal) (own mid new : SessionState) (was late now : Moment Store) (e : Refusal)
-    → IsRefusedLoad (λ mapped e. e ≡ Memory) shows mid late e new now → IsRefusedHere inside Then own was e new now
+    → IsRefusedLoad (λ mapped graph e. e ≡ Memory) shows mid late e new now → IsRefusedHere inside Then own was e new now
 fill_by shows Then inside own mid new was late now e p = EarlyHere (ap ends_early (⊎_elim (λ (memory : e ≡ Memory). memory) (λ (memory : e ≡ Memory). memory) p.cause))
 
 pub fill_refused : {X : Type 0} (shows : Mapped → Scene → Scene → Refusal → Type 0) (Then : SessionState → Moment Store → Refusal → SessionState → Moment Store → Type 0) (inside : Option Refusal) (own mid new : SessionState) (was late now : Moment Store) (r : Result X Refusal)
-    → IfErr r (λ e. IsRefusedLoad (λ mapped e. e ≡ Memory) shows mid late e new now) → IfErr r (λ e. IsRefusedHere inside Then own was e new now)
+    → IfErr r (λ e. IsRefusedLoad (λ mapped graph e. e ≡ Memory) shows mid late e new now) → IfErr r (λ e. IsRefusedHere inside Then own was e new now)
 fill_refused shows Then inside own mid new was late now r p =
-    IfErr-weaker r (λ e. IsRefusedLoad (λ mapped e. e ≡ Memory) shows mid late e new now) (λ e. IsRefusedHere inside Then own was e new now) (λ e by. fill_by shows Then inside own mid new was late now e by) p
+    IfErr-weaker r (λ e. IsRefusedLoad (λ mapped graph e. e ≡ Memory) shows mid late e new now) (λ e. IsRefusedHere inside Then own was e new now) (λ e by. fill_by shows Then inside own mid new was late now e by) p

@@ -1,21 +1,22 @@
 -- Why a call that reads rows into objects is refused, and what that leaves of the session, whatever the keeper tells.
-use Rattle.std.specs.Prelude.{◌≡◌, ◌⊎◌, true, false, List, Option, None, Some}
+use Rattle.std.specs.Prelude.{◌≡◌, true, false, List, Option, None, Some}
 use Rattle.base_core.specs.declared.ids.ClassId.{ClassId}
 use Rattle.base_core.specs.declared.ids.ObjId.{ObjId}
 use Rattle.base_core.specs.declared.ids.RelNo.{RelNo}
 use Rattle.base_core.specs.declared.refusal.Refusal.{Refusal}
-use Rattle.base_core.specs.declared.refusal.Refusal.TheVariants.{Memory}
 use Rattle.base_core.specs.declared.value.Value.{Value}
-use Rattle.class_mapping.specs.Mapped.{Mapped, root_of}
+use Rattle.expr_types.specs.declared.select.ObjectQuery.{ObjectQuery}
+use Rattle.class_mapping.specs.Mapped.{root_of}
+use Rattle.main_selects.specs.MainSelect.{main_select}
 use Rattle.keeper_core.specs.Store.{Store}
 use Rattle.keeper_core.specs.Programs.{ends_early}
 use Rattle.keeper_core.specs.Moment.{IsCalm, Moment, counters}
 use Rattle.object_arena.specs.Identity.{find_identity}
 use Rattle.relations.specs.declared.calls.LinkCall.{LinkCall}
-use Rattle.load_calls.specs.Refreshing.{CanRefuse, IsShownDeleted, Scene}
-use Rattle.load_calls.specs.Refusals.{CanRefuseLoad, CanRefuseRows}
-use Rattle.session_scopes.specs.Loads.{IsShownIn}
-use Rattle.session_scopes.specs.SessionState.{AreAlikeButNotes, GoesOn, SessionState}
+use Rattle.load_calls.specs.Refreshing.{CanRefuse, IsShownDeleted}
+use Rattle.load_calls.specs.Refusals.{CanRefuseLoad, CanRefuseQuery, CanRefuseRows}
+pub use Rattle.session_scopes.specs.Loads.{IsLoadedFrom, IsRefusedLoad}
+use Rattle.session_scopes.specs.SessionState.{AreAlikeButNotes, SessionState}
 use Rattle.session_calls.specs.Refusals.{IsRefused, entered}
 use Rattle.session_calls.specs.Steps.{pending_fault}
 use Rattle.session_links.specs.Linking.{change_fault}
@@ -30,34 +31,25 @@ Refusing = SessionState → Moment Store → Refusal → SessionState → Moment
 
 -- ---- a load
 
--- Only what rows gave has changed: the objects, what is kept of them inside the scopes in progress, and the notes. Each object is
--- there still, of its class.
-pub record IsLoadedFrom (old new : SessionState) : Type 0 where
-  pub goes : GoesOn old new
-  pub rest : new ≡ record old { graph = new.graph; frames = new.frames; notes = new.notes }
-  pub scopes : new.frames.scopes ≡ old.frames.scopes
-
--- a load was refused for what may refuse it, and shows why; what it had loaded by then stays
-pub record IsRefusedLoad (MayRefuse : Mapped → Refusal → Type 0) (IsShown : Mapped → Scene → Scene → Refusal → Type 0) (old : SessionState) (was : Moment Store) (e : Refusal) (new : SessionState) (now : Moment Store) : Type 0 where
-  pub left : IsLoadedFrom old new
-  pub cause : (e ≡ Memory) ⊎ MayRefuse old.mapping e
-  pub shown : (e ≡ Memory) ⊎ IsShownIn (IsShown old.mapping) old was new now e
-
 -- of an object's expired cells
 abbrev pub IsRefusedCells : ObjId → Refusing
-IsRefusedCells object = IsRefusedLoad (λ mapped. CanRefuse mapped object) (λ mapped. IsShownDeleted mapped object)
+IsRefusedCells object = IsRefusedLoad (λ mapped graph. CanRefuse mapped object) (λ mapped. IsShownDeleted mapped object)
 
 -- of an object's link
 abbrev pub IsRefusedLink : ObjId → Refusing
-IsRefusedLink object = IsRefusedLoad (λ mapped. CanRefuseLoad mapped object) (λ mapped. IsShownDeleted mapped object)
+IsRefusedLink object = IsRefusedLoad (λ mapped graph. CanRefuseLoad mapped graph object) (λ mapped. IsShownDeleted mapped object)
 
 -- of the objects of rows
 abbrev pub IsRefusedRows : Refusing
 IsRefusedRows = IsRefusedLoad CanRefuseRows (λ mapped old new e. Unit {0})
 
+-- of the objects of a query
+abbrev pub IsRefusedQuery : ObjectQuery → Refusing
+IsRefusedQuery query = IsRefusedLoad (λ mapped graph. CanRefuseQuery mapped graph (main_select mapped query)) (λ mapped old new e. Unit {0})
+
 -- of an object's whole row
 abbrev pub IsRefusedWhole : ObjId → Refusing
-IsRefusedWhole object = IsRefusedLoad (λ mapped. CanRefuse mapped object) (λ mapped. IsShownGone mapped object)
+IsRefusedWhole object = IsRefusedLoad (λ mapped graph. CanRefuse mapped object) (λ mapped. IsShownGone mapped object)
 
 -- ---- in the transaction
 

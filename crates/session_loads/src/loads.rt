@@ -54,7 +54,7 @@ impl ObjectLoad for RefreshCells {
 
     ghost is_found = { λ load mapped graph answer. Unit {0} };
 
-    ghost can_refuse = { λ load mapped refusal. CanRefuse mapped load.object refusal };
+    ghost can_refuse = { λ load mapped graph refusal. CanRefuse mapped load.object refusal };
 
     ghost is_shown = { λ load mapped old new refusal. IsShownDeleted mapped load.object old new refusal };
 
@@ -94,7 +94,7 @@ impl ObjectLoad for LoadLink {
 
     ghost is_found = { λ load mapped graph answer. Unit {0} };
 
-    ghost can_refuse = { λ load mapped refusal. CanRefuseLoad mapped load.object refusal };
+    ghost can_refuse = { λ load mapped graph refusal. CanRefuseLoad mapped graph load.object refusal };
 
     ghost is_shown = { λ load mapped old new refusal. IsShownDeleted mapped load.object old new refusal };
 
@@ -141,7 +141,7 @@ impl<'a> ObjectLoad for LoadKey<'a> {
 
     ghost is_found = { λ load mapped graph answer. IsEnd graph answer };
 
-    ghost can_refuse = { λ load mapped refusal. CanRefuseRows mapped refusal };
+    ghost can_refuse = { λ load mapped graph refusal. CanRefuseRows mapped graph refusal };
 
     ghost is_shown = { λ load mapped old new refusal. Unit {0} };
 

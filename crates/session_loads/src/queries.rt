@@ -8,7 +8,7 @@ ghost use Rattle.session_calls.specs.Calling.{IsSessionCall};
 ghost use Rattle.session_calls.specs.Steps.{pending_fault};
 ghost use Rattle.session_loads.specs.Queries as steps;
 ghost use Rattle.load_queries.specs.Selectin.{IsSelectable};
-ghost use Rattle.session_loads.specs.Refusals.{IsRefusedLoading, IsRefusedRows, no_fault};
+ghost use Rattle.session_loads.specs.Refusals.{IsRefusedLoading, IsRefusedQuery, no_fault};
 
 use crate::loads::load;
 use base_core::{ObjList, Refusal};
@@ -30,7 +30,8 @@ struct LoadQuery<'a> {
 impl<'a> ObjectLoad for LoadQuery<'a> {
     ghost use Rattle.std.specs.List.{All};
     ghost use Rattle.object_arena.specs.Graph.{IsObject};
-    ghost use Rattle.load_calls.specs.Refusals.{CanRefuseRows};
+    ghost use Rattle.load_calls.specs.Refusals.{CanRefuseQuery};
+    ghost use Rattle.main_selects.specs.MainSelect.{main_select};
     ghost use Rattle.load_queries.specs.Selectin.{load_query};
     ghost use Rattle.session_loads.specs.Queries as steps;
     ghost use Rattle.load_queries.specs.Selectin.{IsSelectable};
@@ -43,7 +44,7 @@ impl<'a> ObjectLoad for LoadQuery<'a> {
 
     ghost is_found = { λ load mapped graph answer. All (IsObject graph) answer };
 
-    ghost can_refuse = { λ load mapped refusal. CanRefuseRows mapped refusal };
+    ghost can_refuse = { λ load mapped graph refusal. CanRefuseQuery mapped graph (main_select mapped load.query.now) refusal };
 
     ghost is_shown = { λ load mapped old new refusal. Unit {0} };
 
@@ -65,7 +66,7 @@ impl<'a> ObjectLoad for LoadQuery<'a> {
 ///
 /// # Errors
 /// `PendingRollbackError` while a failed flush waits for its rollback; then, in the transaction, what a flush is refused for; then what
-/// the keeper refuses of a select, `InvalidRequestError(NoSuchIdentity)` for a row that names no class, and `LimitReached(Objects)`.
+/// the keeper refuses of a select, `DataError` only where that calculates, `InvalidRequestError(NoSuchIdentity)` for a row that names no class, and `LimitReached(Objects)`.
 /// What was loaded by then stays.
 pub fn select_objects<K: Keeper>(
     session: &mut Session,
@@ -78,7 +79,7 @@ pub fn select_objects<K: Keeper>(
         (session.old, keeper.old) result (session.new, keeper.new) }
     ensures made { IfOk result (All (IsObject session.new.graph)) }
     ensures refused { IfErr result (λ e. IsRefusedLoading (pending_fault session.old) None
-        no_fault IsRefusedRows
+        no_fault (IsRefusedQuery query.now)
         session.old (K.moment keeper.old) e session.new (K.moment keeper.new)) }
 {
     flush_now(session, keeper)?;

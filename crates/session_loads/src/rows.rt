@@ -114,7 +114,7 @@ impl ObjectLoad for ReadRow {
 
     ghost is_found = { λ load mapped graph rows. AreRowsOf mapped graph load.object rows };
 
-    ghost can_refuse = { λ load mapped refusal. CanRefuse mapped load.object refusal };
+    ghost can_refuse = { λ load mapped graph refusal. CanRefuse mapped load.object refusal };
 
     ghost is_shown = { λ load mapped old new refusal. IsShownGone mapped load.object old new refusal };
 
@@ -151,7 +151,7 @@ impl<'a> ObjectLoad for FillRow<'a> {
 
     ghost is_found = { λ load mapped graph answer. Unit {0} };
 
-    ghost can_refuse = { λ load mapped refusal. refusal ≡ Memory };
+    ghost can_refuse = { λ load mapped graph refusal. refusal ≡ Memory };
 
     ghost is_shown = { λ load mapped old new refusal. Unit {0} };
 

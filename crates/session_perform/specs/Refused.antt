@@ -18,7 +18,7 @@ use Rattle.session_objects.specs.Conflicts.{add_fault}
 use Rattle.session_objects.specs.ValueSteps.{judged_fault, valid_made, value_invalid}
 use Rattle.session_links.specs.Linking.{change_fault}
 use Rattle.session_loads.specs.Asking.{cell_fault, link_fault, persistence_fault}
-use Rattle.session_loads.specs.Refusals.{IsRefusedCells, IsRefusedChanging, IsRefusedGetting, IsRefusedLink, IsRefusedLoading, IsRefusedReading, IsRefusedRows, IsRefusedWhole, no_fault}
+use Rattle.session_loads.specs.Refusals.{IsRefusedCells, IsRefusedChanging, IsRefusedGetting, IsRefusedLink, IsRefusedLoading, IsRefusedQuery, IsRefusedReading, IsRefusedWhole, no_fault}
 use Rattle.relations.specs.declared.calls.LinkCall.TheVariants.{Set}
 use Rattle.base_core.specs.declared.ids.ObjId.{ObjId}
 use Rattle.base_core.specs.declared.ids.RelNo.{RelNo}
@@ -38,7 +38,7 @@ IsRefusedLine rules resolved.DropAll old was e new now = IsRefused (transaction_
 IsRefusedLine rules resolved.Dump old was e new now = ends_early e ≡ true
 IsRefusedLine rules (resolved.New name class cells) old was e new now = IsRefused (fault_in (valid_made rules class cells old).answer) None old e new
 IsRefusedLine rules (resolved.Get name class key) old was e new now = IsRefusedGetting class key old was e new now
-IsRefusedLine rules (resolved.Objects name query) old was e new now = IsRefusedLoading (pending_fault old) None no_fault IsRefusedRows old was e new now
+IsRefusedLine rules (resolved.Objects name query) old was e new now = IsRefusedLoading (pending_fault old) None no_fault (IsRefusedQuery query) old was e new now
 IsRefusedLine rules (resolved.Related name object relation) old was e new now = IsRefusedRelated object relation old was e new now
 IsRefusedLine rules (resolved.BeginNested name) old was e new now = IsRefusedFlushing (pending_fault old) (limit_fault (entered old)) old was e new now
 IsRefusedLine rules (resolved.SetCell object attr value) old was e new now =

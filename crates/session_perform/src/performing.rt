@@ -46,14 +46,9 @@ pub fn perform<K: Keeper>(
         Resolved::CreateAll => nothing_told(create_all(session, keeper)),
         Resolved::DropAll => nothing_told(drop_all(session, keeper)),
         Resolved::Dump => tables(session, keeper),
-        Resolved::New { name, class, cells } => make(
-            session,
-            keeper,
-            hooks,
-            name,
-            class,
-            cells.as_slice(),
-        ),
+        Resolved::New { name, class, cells } => {
+            make(session, keeper, hooks, name, class, cells.as_slice())
+        }
         Resolved::Get { name, class, key } => get(session, keeper, name, class, &key),
         Resolved::Objects { name, query } => select_objects(session, keeper, name, query.get()),
         Resolved::Related {
@@ -62,16 +57,12 @@ pub fn perform<K: Keeper>(
             relation,
         } => bind_related(session, keeper, name, object, relation),
         Resolved::BeginNested(name) => begin_nested(session, keeper, name),
-        Resolved::SetCell {
-            object,
-            attr,
-            value,
-        } => nothing_told(set_valid(session, keeper, hooks, object, attr, value)),
-        Resolved::ChangeLink {
-            owner,
-            relation,
-            call,
-        } => nothing_told(change_link(session, keeper, owner, relation, call)),
+        Resolved::SetCell(object, attr, value) => {
+            nothing_told(set_valid(session, keeper, hooks, object, attr, value))
+        }
+        Resolved::ChangeLink(owner, relation, call) => {
+            nothing_told(change_link(session, keeper, owner, relation, call))
+        }
         Resolved::Add(object) => nothing_told(add(session, keeper, object)),
         Resolved::Delete(object) => nothing_told(delete(session, keeper, object)),
         Resolved::Refresh(object) => nothing_told(refresh(session, keeper, object)),

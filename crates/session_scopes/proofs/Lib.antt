@@ -1,4 +1,5 @@
 mod Falling
+mod GivenLemmas
 pub mod SessionLemmas
 mod MakingLemmas
 pub mod GrownLemmas

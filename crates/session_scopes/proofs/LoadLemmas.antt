@@ -177,5 +177,10 @@ load_shown IsShown {inside = inside} {session = session} {now = now} {own = own}
     subst (λ (s : SessionState). IsShownIn (IsShown s.mapping) s before now after e) is
     (record { own = own; graph = graph; taken = taken; shown = subst (λ (ns : List Note). IsShown inside.mapping (loading inside.graph ns, before) (own, after) e) none shown })
 
+-- what may refuse a load, by the objects that it left
+pub load_may : (May : Mapped → Graph → Refusal → Type 0) {inside session : SessionState} {left now : Graph} {e : Refusal} → inside ≡ session → left ≡ now → May inside.mapping left e → May session.mapping now e
+load_may May {inside = inside} {session = session} {left = left} {now = now} {e = e} is same may =
+    subst (λ (s : SessionState). May s.mapping now e) is (subst (λ (g : Graph). May inside.mapping g e) same may)
+
 pub early_taken : (e : Refusal) {P : Type 0} → ends_early e ≡ true → ends_early e ≡ false → P
 early_taken e early own = absurd (let h : false ≡ true = sym own ∙ early in cc)

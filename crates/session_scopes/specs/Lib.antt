@@ -4,3 +4,4 @@ pub mod Scoping
 pub mod Changes
 pub mod Making
 pub mod Loads
+pub mod Keeping

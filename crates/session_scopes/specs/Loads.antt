@@ -1,8 +1,10 @@
 -- Loads of a session's objects, as programs of the session.
-use Rattle.std.specs.Prelude.{◌≡◌, false, List, [], ◌∷◌, ◌++◌}
+use Rattle.std.specs.Prelude.{◌≡◌, ◌⊎◌, false, List, [], ◌∷◌, ◌++◌}
 use Rattle.std.specs.List.{flat_map}
 use Rattle.base_core.specs.declared.ids.ObjId.{ObjId}
 use Rattle.base_core.specs.declared.refusal.Refusal.{Refusal}
+use Rattle.base_core.specs.declared.refusal.Refusal.TheVariants.{Memory}
+use Rattle.class_mapping.specs.Mapped.{Mapped}
 use Rattle.keeper_core.specs.declared.notes.Note.{Note}
 use Rattle.keeper_core.specs.declared.notes.Note.TheVariants.{Filled}
 use Rattle.keeper_core.specs.Beside.{Beside}
@@ -13,7 +15,7 @@ use Rattle.object_arena.specs.Graph.{Graph}
 use Rattle.object_records.specs.Touched.{frames_with_touched}
 use Rattle.savepoints.specs.Scopes.{Framed}
 use Rattle.load_rows.specs.Loading.{Loading, loading}
-use Rattle.session_scopes.specs.SessionState.{SessionState}
+use Rattle.session_scopes.specs.SessionState.{GoesOn, SessionState}
 
 -- the objects, with nothing noted yet
 abbrev pub loading_in : SessionState → Loading
@@ -46,3 +48,18 @@ pub record IsShownIn (IsShown : Loading × Moment Store → Loading × Moment St
   pub graph : own.graph ≡ new.graph
   pub taken : ends_early e ≡ false → new ≡ with_loaded own old
   pub shown : IsShown (loading_in old, before) (own, after) e
+
+-- ---- what a load leaves
+
+-- Only what rows gave has changed: the objects, what is kept of them inside the scopes in progress, and the notes. Each object is
+-- there still, of its class.
+pub record IsLoadedFrom (old new : SessionState) : Type 0 where
+  pub goes : GoesOn old new
+  pub rest : new ≡ record old { graph = new.graph; frames = new.frames; notes = new.notes }
+  pub scopes : new.frames.scopes ≡ old.frames.scopes
+
+-- a load was refused for what may refuse it, and shows why; what it had loaded by then stays
+pub record IsRefusedLoad (MayRefuse : Mapped → Graph → Refusal → Type 0) (IsShown : Mapped → Loading × Moment Store → Loading × Moment Store → Refusal → Type 0) (old : SessionState) (was : Moment Store) (e : Refusal) (new : SessionState) (now : Moment Store) : Type 0 where
+  pub left : IsLoadedFrom old new
+  pub cause : (e ≡ Memory) ⊎ MayRefuse old.mapping new.graph e
+  pub shown : (e ≡ Memory) ⊎ IsShownIn (IsShown old.mapping) old was new now e

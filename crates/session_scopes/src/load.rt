@@ -37,8 +37,8 @@ pub trait ObjectLoad {
     /// What is so of its answer.
     ghost is_found: { Self → Mapped → Graph → Self.Answer → Type 0 };
 
-    /// What it may refuse.
-    ghost can_refuse: { Self → Mapped → Refusal → Type 0 };
+    /// What it may refuse, by the objects then.
+    ghost can_refuse: { Self → Mapped → Graph → Refusal → Type 0 };
 
     /// What is so of a refusal: the objects, the notes and the keeper before, and then.
     ghost is_shown: { Self → Mapped → Loading × Moment Store → Loading × Moment Store → Refusal → Type 0 };
@@ -64,7 +64,7 @@ pub trait ObjectLoad {
         ensures grows { Grows arena.old arena.new }
         ensures fits { IsFit mapping.now arena.new }
         ensures found { IfOk result (is_found self mapping.now arena.new) }
-        ensures refuses { IfErr result (can_refuse self mapping.now) }
+        ensures refuses { IfErr result (can_refuse self mapping.now arena.new) }
         ensures shown { IfErr result (is_shown self mapping.now
             (loading arena.old notes.old, K.moment keeper.old)
             (loading arena.new notes.new, K.moment keeper.new)) };

@@ -12,9 +12,11 @@ ghost use Rattle.object_arena.specs.Graph.{IsCell, IsObject, is_persistent, obje
 ghost use Rattle.std.specs.List.{All, list_all};
 ghost use Rattle.keeper_core.specs.Alone.{IsQuiet};
 ghost use Rattle.load_rows.specs.Loading.{loading};
+ghost use Rattle.object_records.specs.Kept.{held_in};
 ghost use Rattle.savepoints.specs.Scopes.{scope_limit};
 ghost use Rattle.session_scopes.specs.Changes as changes;
 ghost use Rattle.session_scopes.specs.Handles.{place_of_handle};
+ghost use Rattle.session_scopes.specs.Keeping as keeping;
 ghost use Rattle.session_scopes.specs.Loads.{IsShownIn, on_load, with_loaded};
 ghost use Rattle.session_scopes.specs.Making as making;
 ghost use Rattle.session_scopes.specs.Scoping as scoping;
@@ -28,7 +30,7 @@ use class_mapping::Mapping;
 use keeper_core::{Keeper, Note, Notes, Sent, calls};
 use object_arena::{Arena, Cell, Object, State};
 use object_parts::is_of_kept_key;
-use object_records::{touch_for_mark, touch_for_value};
+use object_records::{KeptObjects, give_back, kept_objects, touch_for_mark, touch_for_value};
 use savepoints::Frames;
 use session_parts::{commit_all, let_go_all};
 use std::alloc::{AllocError, Global};
@@ -361,7 +363,7 @@ impl Session {
         ensures scopes { self.new.frames.scopes ≡ self.old.frames.scopes }
         ensures found { IfOk result (L.is_found load self.new.mapping self.new.graph) }
         ensures refuses { IfErr result
-            (λ e. (e ≡ Memory) ⊎ L.can_refuse load self.old.mapping e) }
+            (λ e. (e ≡ Memory) ⊎ L.can_refuse load self.old.mapping self.new.graph e) }
         ensures shown { IfErr result (λ e. (e ≡ Memory) ⊎ IsShownIn
             (L.is_shown load self.old.mapping)
             self.old (K.moment keeper.old) self.new (K.moment keeper.new) e) }
@@ -401,6 +403,25 @@ impl Session {
     {
         touch_filled(&mut self.frames, &self.arena, notes.as_slice())?;
         append_notes(self.alloc, &mut self.notes, notes)
+    }
+
+    /// The cells and links of all objects, to be given back. The only refusal is out of memory.
+    pub fn keep(&self) -> Result<KeptObjects, AllocError>
+        ensures held { IfOk result (λ kept. kept ≡ held_in self.now.graph) }
+        ensures kept { IfOk result
+            (λ kept. keeping.IsKeptOf self.now.mapping kept self.now.graph) }
+    {
+        kept_objects(self.alloc, &self.arena)
+    }
+
+    /// Gives objects the cells and links that were kept; those that were made since stay as they are. Nothing is touched, and it takes
+    /// no memory.
+    pub fn give_back(&mut self, kept: KeptObjects)
+        requires { keeping.IsKeptOf self.old.mapping kept self.old.graph }
+        ensures given { self.new ≡ keeping.session_given_back kept self.old }
+        ensures same { SameObjects self.old self.new }
+    {
+        give_back(&mut self.arena, kept);
     }
 
     /// The next add number, which is given now.

@@ -1,5 +1,6 @@
 -- The laws of the strategies at the calls of a whole session.
-use Rattle.std.proofs.Common.{◌≡◌, List, refl, sym, ap, subst, ◌∙◌}
+use Rattle.std.proofs.Common.{◌≡◌, true, List, refl, sym, ap, subst, ◌∙◌}
+use Rattle.std.specs.List.{list_any}
 use Rattle.base_core.specs.declared.ids.ObjId.{ObjId}
 use Rattle.base_core.specs.declared.ids.RelNo.{RelNo}
 use Rattle.expr_types.specs.declared.select.ObjectQuery.{ObjectQuery}
@@ -22,6 +23,7 @@ use Rattle.load_queries.specs.Selectin.{load_objects}
 use Rattle.load_steps.specs.Loads.{Load}
 use Rattle.ranked_rows.specs.Laws.{MainSelectsAnswerTableRows, OwnSelectsAnswerTableRows, SelectsAnswerTableRows}
 use Rattle.loading_laws.specs.Joined.Joined.{AnswerAlike}
+use Rattle.loading_laws.specs.Loaders.Lazily.{is_link}
 use Rattle.loading_laws.specs.Loaders.Linked.{HoldsRows, related_to}
 use Rattle.loading_laws.specs.Loaders.OwnRows.{AreOfTheirRows}
 use Rattle.loading_laws.specs.Loading.Loadable.{IsLoadable, rows_of}
@@ -34,21 +36,20 @@ use Rattle.session_calls.specs.Parts.{World}
 use Rattle.session_laws.specs.Loads.{loading_of}
 use Rattle.session_laws.specs.Whole.{IsHale}
 use Rattle.session_scopes.specs.Loads.{on_load}
-use Rattle.session_links.specs.declared.reading.Related.{Related}
-use Rattle.session_loads.specs.Reads.{read_related}
 use Rattle.session_laws.proofs.Whole.Inside.{IsWithin}
 use Rattle.session_load_laws.specs.Loads.{LoadsLeaveLoaded, MayLoad, loaded_by}
 use Rattle.session_load_laws.proofs.Going.{loaded_going}
 use Rattle.session_laws.proofs.Health.Acts.{FlushLeavesSound, FlushWritesAll}
 use Rattle.session_laws.proofs.OwnRows.Standing.{hierarchies}
 use Rattle.session_strategies.specs.Asked.{IsOfClass, by_joins, by_selects, lazily, written}
-use Rattle.session_strategies.specs.Strategies.{AnswerAllAlike, AreFilledByBoth, AreSelected, CallsAnswerAlike, CallsFillAlike, CallsReadAlike, IsAnsweredByEach, IsOfItsRows}
-use Rattle.session_strategies.proofs.Alike.{batch_stays, filled, first_stays, joined_alike, lazy_holds, selectin_alike, unloaded}
+use Rattle.loading_laws.proofs.Loading.Alike.{batch_stays, first_stays, joined_alike, selectin_alike}
+use Rattle.session_strategies.specs.Strategies.{AnswerAllAlike, AreFilledByBoth, AreReadInTurn, AreSelected, CallsAnswerAlike, CallsFillAlike, CallsReadAlike, IsAnsweredByEach, IsOfItsRows}
+use Rattle.session_strategies.proofs.Alike.{filled, to_read}
 use Rattle.session_strategies.proofs.Fresh.{fresh_of}
 use Rattle.session_strategies.specs.Unwritten.{NothingIsLeft}
 use Rattle.session_strategies.proofs.Kept.{nothing_left}
 use Rattle.session_strategies.proofs.Loaded.{load_left}
-use Rattle.session_strategies.proofs.Reading.{IsLazyLoad, read_goes}
+use Rattle.session_strategies.proofs.InTurn.{links_hold}
 use Rattle.session_strategies.proofs.Loading.{IsLoaded, call_loads, joined_loaded, own_loaded, taking, together_loaded, written_led}
 
 -- a query that a whole session is asked for can be loaded by any strategy
@@ -166,9 +167,9 @@ module _ (keeps : FlushLeavesSound) (answers : FlushWritesAll) (query : ObjectQu
     fills =
         subst (λ (v : World). Fills v after batch) own.is (subst (λ (v : World). Fills (taking own.now here) v batch) joined.is (subst (λ (v : World). Fills (taking own.now here) (taking joined.now here) v) selectin.is fills_taking))
 
-    -- ---- the link that is read behind the first call
+    -- ---- links that are read behind the first call
 
-    module _ (selects : SelectsAnswerTableRows) (owns : OwnSelectsAnswerTableRows) (mains : MainSelectsAnswerTableRows) (leaves : LoadsLeaveLoaded) (related : Related) (lazy : World) where
+    module _ (selects : SelectsAnswerTableRows) (owns : OwnSelectsAnswerTableRows) (mains : MainSelectsAnswerTableRows) (leaves : LoadsLeaveLoaded) (links : List (ObjId × RelNo)) (lazy : World) where
       abbrev load : loads.World → Run loads.World (List ObjId)
       load = load_queries.load_query mapped (lazily query)
 
@@ -199,28 +200,24 @@ module _ (keeps : FlushLeavesSound) (answers : FlushWritesAll) (query : ObjectQu
 
       abbrev Reads : World → World → World → Type 0
       Reads first after batch =
-          IsOfItsRows first → IsOfItsRows batch → IsOfItsRows lazy → IsAnsweredByEach query objects answered together world first after batch place one owner other → Goes (read_related one place) first related lazy
-          → AreFilledAlike mapped relation (related_to mapped relation (bare here.store.tables) (rows_of mapped (bare here.store.tables) relation.target) first.own.graph one)
+          IsOfItsRows first → IsOfItsRows batch → IsOfItsRows lazy → IsAnsweredByEach query objects answered together world first after batch place one owner other → AreReadInTurn mapped query.class objects links first lazy
+          → list_any (is_link one place) links ≡ true → AreFilledAlike mapped relation (related_to mapped relation (bare here.store.tables) (rows_of mapped (bare here.store.tables) relation.target) first.own.graph one)
           (old_link mapped query.class place here.own.graph (identity_key first.own.graph one)) lazy.own.graph after.own.graph batch.own.graph (link_at lazy.own.graph one place) (link_at after.own.graph owner place) (link_at batch.own.graph other place)
 
       reads_taking : Reads (taking own.now here) (taking joined.now here) (taking selectin.now here)
-      reads_taking first_rows batch_rows lazy_rows by read =
-          let rows : List Row = related_to mapped relation (bare here.store.tables) (rows_of mapped (bare here.store.tables) relation.target) own.now.own.graph one in
+      reads_taking first_rows batch_rows lazy_rows by turn among =
+          let all : List Row = rows_of mapped (bare here.store.tables) relation.target in
+          let rows : List Row = related_to mapped relation (bare here.store.tables) all own.now.own.graph one in
           let old : Link = old_link mapped query.class place here.own.graph (identity_key own.now.own.graph one) in
           let both = fills_taking first_rows batch_rows by in
           let batch_of : AreOfTheirRows mapped (bare here.store.tables) selectin.now.own.graph =
           subst (λ (s : Store). AreOfTheirRows mapped (bare s.tables) selectin.now.own.graph)
           (batch_stays mapped query objects answered together start own.now joined.now selectin.now can asked.query_is.selectin own_goes joined_goes together_goes) batch_rows in
-          let owned : IsOwner mapped query objects answered start own.now joined.now place one owner = owner_by by in
-          let waits = unloaded mapped query objects answered together start own.now joined.now selectin.now can asked.query_is.selectin own_goes joined_goes together_goes (settled first_rows) batch_of place one owner other owned by.selectin by.other_among by.other_same in
-          let lazily_read : IsLazyLoad one place (taking own.now here) lazy = read_goes one place world.own (taking own.now here) related lazy within nothing waits read in
-          let of : AreOfTheirRows mapped (bare lazily_read.now.store.tables) lazily_read.now.own.graph =
-          subst (λ (s : Store). AreOfTheirRows mapped (bare s.tables) lazily_read.now.own.graph) lazily_read.store
-          (subst (λ (g : Graph). AreOfTheirRows mapped (bare lazy.store.tables) g) lazily_read.graph (subst (λ (m : Mapped). AreOfTheirRows m (bare lazy.store.tables) lazy.own.graph) lazily_read.mapping lazy_rows)) in
+          let read = to_read mapped query objects answered together start own.now joined.now selectin.now can asked.query_is.selectin own_goes joined_goes together_goes (settled first_rows) batch_of place one owner other (owner_by by) by.selectin by.other_among by.other_same in
           let held : HoldsRows mapped relation rows old lazy.own.graph (link_at lazy.own.graph one place) =
-          subst (λ (g : Graph). HoldsRows mapped relation rows old g (link_at g one place)) (sym lazily_read.graph)
-          (lazy_holds mapped query objects answered together start own.now joined.now selectin.now can asked.query_is.selectin own_goes joined_goes together_goes (settled first_rows) batch_of place one owner other owned by.selectin by.other_among by.other_same
-          lazily_read.now lazily_read.loaded of) in
+          read.held lazy.own.graph (link_at lazy.own.graph one place)
+          (links_hold selects owns mains leaves keeps answers (taking own.now here) read.stage relation place one all read.ready read.rows read.waits world.own links lazy within nothing (read.can links turn.are) among
+          (read.agrees (loading_of lazy)) lazy_rows turn.read) in
           record {
             one_holds = held;
             other_holds = both.joined;
@@ -240,5 +237,5 @@ pub fill_alike : FlushLeavesSound → FlushWritesAll → CallsFillAlike
 fill_alike keeps answers query objects answered together world first after batch place one owner other hale asked = fills keeps answers query objects answered together world first after batch hale asked place one owner other
 
 pub read_alike : FlushLeavesSound → FlushWritesAll → SelectsAnswerTableRows → OwnSelectsAnswerTableRows → MainSelectsAnswerTableRows → LoadsLeaveLoaded → CallsReadAlike
-read_alike keeps answers selects owns mains leaves query objects answered together world first after batch place one owner other related lazy hale asked =
-    reads keeps answers query objects answered together world first after batch hale asked place one owner other selects owns mains leaves related lazy
+read_alike keeps answers selects owns mains leaves query objects answered together world first after batch place one owner other links lazy hale asked =
+    reads keeps answers query objects answered together world first after batch hale asked place one owner other selects owns mains leaves links lazy

@@ -8,3 +8,4 @@ pub mod Laws
 pub mod Again
 pub mod Loaded
 pub mod Reading
+pub mod InTurn

@@ -33,14 +33,14 @@ use Rattle.session_strategies.specs.Unwritten.{NothingIsLeft}
 use Rattle.session_strategies.specs.Strategies.{IsSame}
 use Rattle.session_strategies.proofs.Again.{flush_same}
 
--- a link that waits, as a session asks of it
-waits_at : (links : List Link) (n : ℕ) → is_unloaded (get_or links n Unset) ≡ true → mirror.is_unloaded (slice_get links n) ≡ true
-waits_at [] n is = absurd cc
-waits_at (Unset ∷ links) zero is = absurd cc
-waits_at (Unloaded added removed ∷ links) zero is = refl
-waits_at (One end changed ∷ links) zero is = absurd cc
-waits_at (Many members base ∷ links) zero is = absurd cc
-waits_at (link ∷ links) (suc n) is = waits_at links n is
+-- whether a link waits, as a session asks of it
+asked_as : (links : List Link) (n : ℕ) → mirror.is_unloaded (slice_get links n) ≡ is_unloaded (get_or links n Unset)
+asked_as [] n = refl
+asked_as (Unset ∷ links) zero = refl
+asked_as (Unloaded added removed ∷ links) zero = refl
+asked_as (One end changed ∷ links) zero = refl
+asked_as (Many members base ∷ links) zero = refl
+asked_as (link ∷ links) (suc n) = asked_as links n
 
 -- what a check that passed leaves
 passed : {B : Type 0} (fault : SessionState → Option Refusal) (next : Unit {0} → World → Run World B) (w : World) (b : B) (x : World) → Goes (checked fault >>= next) w b x → Goes (next tt) w b x
@@ -60,6 +60,10 @@ module _ (object : ObjId) (place : RelNo) where
   asked_goes : (m : World → Run World (Unit {0})) (w x : World) (asked : Bool) → asked ≡ true → Goes (if_asked asked m) w tt x → Goes m w tt x
   asked_goes m w x true is g = g
   asked_goes m w x false is g = absurd cc
+
+  unasked_same : (m : World → Run World (Unit {0})) (w x : World) (asked : Bool) → asked ≡ false → Goes (if_asked asked m) w tt x → w ≡ x
+  unasked_same m w x true is g = absurd cc
+  unasked_same m w x false is g = (given tt tt w x (record { answer = g.answer; leaves = g.leaves })).1
 
   load_goes : (v x : World) → Goes (load_link object place) v tt x → IsLazyLoad object place v x
   unfolding by_own on_load
@@ -83,25 +87,45 @@ module _ (object : ObjId) (place : RelNo) where
         mapping = is.mapping ∙ same.mapping;
       }
 
-  pub read_goes : (first : SessionState) (w : World) (related : Related) (x : World) → IsWithin first w → NothingIsLeft w.own.graph → is_unloaded (link_at w.own.graph object place) ≡ true → Goes (read_related object place) w related x
-      → IsLazyLoad object place w x
-  unfolding read_related tell_related fetch_link fill_attached fill_link flush_whole by_own give
-  read_goes first w related x it nothing waits g =
-      let unloaded : is_unloaded_in object place w.own ≡ true = waits_at (object_at w.own.graph object).links place.0 waits in
-      -- the transaction is in progress
+  unloaded_as : (w : World) → is_unloaded_in object place w.own ≡ is_unloaded (link_at w.own.graph object place)
+  unloaded_as w = asked_as (object_at w.own.graph object).links place.0
+
+  -- the transaction is in progress
+  pub inside_goes : (first : SessionState) (w : World) (related : Related) (x : World) → IsWithin first w → Goes (read_related object place) w related x → Goes (tell_related object place) w related x
+  unfolding read_related give
+  inside_goes first w related x it g =
       let begun = parted enter (λ (u : Unit {0}). tell_related object place) w related x (record { answer = g.answer; leaves = g.leaves }) in
       let same : begun.between ≡ w = sym begun.first.leaves ∙ ap (λ (run : Run World (Unit {0})). run.after) (enter_still first w it) in
-      let inside : Goes (tell_related object place) w related x = subst (λ (v : World). Goes (tell_related object place) v related x) same begun.second in
-      let after_check = passed (link_fault object place) (λ u. fetch_link object place >>= λ u. by_own (λ session. give (related_in object place session))) w related x (record { answer = inside.answer; leaves = inside.leaves }) in
+      subst (λ (v : World). Goes (tell_related object place) v related x) same begun.second
+
+  -- what is told of the link changes nothing
+  fetched : (w : World) (related : Related) (x : World) → Goes (tell_related object place) w related x → Goes (fetch_link object place) w tt x
+  unfolding tell_related by_own give
+  fetched w related x g =
+      let after_check = passed (link_fault object place) (λ u. fetch_link object place >>= λ u. by_own (λ session. give (related_in object place session))) w related x (record { answer = g.answer; leaves = g.leaves }) in
       let told = parted (fetch_link object place) (λ (u : Unit {0}). by_own (λ (session : SessionState). give (related_in object place session))) w related x after_check in
       let end : told.between ≡ x = (given (related_in object place told.between.own) related told.between x (record { answer = told.second.answer; leaves = told.second.leaves })).1 in
-      let fetched : Goes (write_and_fill object place) w tt told.between = asked_goes (write_and_fill object place) w told.between (is_unloaded_in object place w.own) unloaded (record { answer = told.first.answer; leaves = told.first.leaves }) in
+      subst (λ (v : World). Goes (fetch_link object place) w tt v) end (record { answer = told.first.answer; leaves = told.first.leaves })
+
+  -- a link that is loaded is not read
+  pub loaded_stays : (w : World) (related : Related) (x : World) → is_unloaded (link_at w.own.graph object place) ≡ false → Goes (tell_related object place) w related x → w ≡ x
+  unfolding fetch_link by_own
+  loaded_stays w related x loaded g =
+      let found = fetched w related x g in
+      unasked_same (write_and_fill object place) w x (is_unloaded_in object place w.own) (unloaded_as w ∙ loaded) (record { answer = found.answer; leaves = found.leaves })
+
+  pub read_goes : (w : World) (related : Related) (x : World) → NothingIsLeft w.own.graph → is_unloaded (link_at w.own.graph object place) ≡ true → Goes (tell_related object place) w related x → IsLazyLoad object place w x
+  unfolding fetch_link fill_attached fill_link flush_whole by_own
+  read_goes w related x nothing waits g =
+      let unloaded : is_unloaded_in object place w.own ≡ true = unloaded_as w ∙ waits in
+      let found = fetched w related x g in
+      let asked : Goes (write_and_fill object place) w tt x = asked_goes (write_and_fill object place) w x (is_unloaded_in object place w.own) unloaded (record { answer = found.answer; leaves = found.leaves }) in
       -- the flush, which leaves the objects as they are
-      let flushed = parted flush_whole (λ (u : Unit {0}). fill_attached object place) w tt told.between fetched in
+      let flushed = parted flush_whole (λ (u : Unit {0}). fill_attached object place) w tt x asked in
       let wrote = passed orphan_fault (λ u. flush) w tt flushed.between (record { answer = flushed.first.answer; leaves = flushed.first.leaves }) in
       let kept : IsSame w flushed.between = subst (IsSame w) wrote.leaves (flush_same w nothing wrote.answer) in
       let still : is_unloaded_in object place flushed.between.own ≡ true = ap (λ (graph : Graph). mirror.is_unloaded (mirror.link_at graph object place)) kept.graph ∙ unloaded in
       -- the load
-      let attached = passed (link_fault object place) (λ u. fill_link object place) flushed.between tt told.between (record { answer = flushed.second.answer; leaves = flushed.second.leaves }) in
-      let filled = asked_goes (load_link object place) flushed.between told.between (is_unloaded_in object place flushed.between.own) still (record { answer = attached.answer; leaves = attached.leaves }) in
-      subst (IsLazyLoad object place w) end (from_same w flushed.between told.between kept (load_goes flushed.between told.between filled))
+      let attached = passed (link_fault object place) (λ u. fill_link object place) flushed.between tt x (record { answer = flushed.second.answer; leaves = flushed.second.leaves }) in
+      let filled = asked_goes (load_link object place) flushed.between x (is_unloaded_in object place flushed.between.own) still (record { answer = attached.answer; leaves = attached.leaves }) in
+      from_same w flushed.between x kept (load_goes flushed.between x filled)

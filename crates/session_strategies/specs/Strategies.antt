@@ -1,6 +1,7 @@
 -- Lazy, joined and select-in loading at a session's calls: the same objects in one order, and the same links.
 use Rattle.std.specs.Prelude.{◌≡◌, ◌==◌, true, List, Ok}
-use Rattle.std.specs.List.{list_any}
+use Rattle.std.specs.List.{All, list_any}
+use Rattle.base_core.specs.declared.ids.ClassId.{ClassId}
 use Rattle.base_core.specs.declared.ids.ObjId.{ObjId}
 use Rattle.base_core.specs.declared.ids.RelNo.{RelNo}
 use Rattle.expr_types.specs.declared.select.ObjectQuery.{ObjectQuery}
@@ -8,6 +9,7 @@ use Rattle.sql_semantics.specs.Created.{bare}
 use Rattle.sql_semantics.specs.Eval.{Row}
 use Rattle.class_types.specs.declared.mapped.Relation.{Relation}
 use Rattle.class_mapping.specs.Mapped.{Mapped}
+use Rattle.keeper_core.specs.Programs.{Run, ◌>>=◌, each, give}
 use Rattle.object_arena.specs.declared.object.Link.{Link}
 use Rattle.object_arena.specs.Fit.{relation_of}
 use Rattle.object_arena.specs.Graph.{Graph, is_among}
@@ -17,17 +19,17 @@ use Rattle.load_rows.specs.Links.{link_at}
 use Rattle.load_batches.specs.Batches.{is_unloaded}
 use Rattle.load_steps.specs.Loads.{Load}
 use Rattle.loading_laws.specs.Joined.Joined.{AnswerAlike}
+use Rattle.loading_laws.specs.Loaders.Lazily.{is_link}
 use Rattle.loading_laws.specs.Loaders.Linked.{HoldAlike, HoldsRows, related_to}
 use Rattle.loading_laws.specs.Loaders.OwnRows.{AreOfTheirRows}
 use Rattle.loading_laws.specs.Loading.Loadable.{rows_of}
-use Rattle.loading_laws.specs.Loading.Strategies.{AreFilledAlike}
+use Rattle.loading_laws.specs.Loading.Strategies.{AreFilledAlike, IsLinkOf}
 use Rattle.loading_laws.specs.Loading.Whole.{old_link}
 use Rattle.loading_laws.specs.Strategies.Filled.{Goes}
 use Rattle.session_calls.specs.Parts.{World}
 use Rattle.session_acts.specs.Flush.{flush}
 use Rattle.session_acts.specs.Steps.{flush_now}
 use Rattle.session_laws.specs.Whole.{IsHale}
-use Rattle.session_links.specs.declared.reading.Related.{Related}
 use Rattle.session_loads.specs.Queries.{select_objects}
 use Rattle.session_loads.specs.Reads.{read_related}
 use Rattle.session_load_laws.specs.Loads.{MayLoad, loaded_by}
@@ -110,12 +112,28 @@ CallsFillAlike =
     (rows_of (written world).own.mapping (bare (written world).store.tables) (relation_of (written world).own.mapping query.class place).target) first.own.graph one)
     (old_link (written world).own.mapping query.class place (written world).own.graph (identity_key first.own.graph one)) after.own.graph batch.own.graph (link_at after.own.graph owner place) (link_at batch.own.graph other place)
 
--- So does that link where it is read behind the call without options, which writes first what is to be written.
+-- ---- links that are read one after another
+
+-- the link of an object at a place is read, whatever it leads to
+abbrev pub read_link : ObjId × RelNo → Unit {0} → World → Run World (Unit {0})
+read_link link u = read_related link.0 link.1 >>= λ related. give tt
+
+-- links are read, one after another
+abbrev pub read_links : List (ObjId × RelNo) → World → Run World (Unit {0})
+read_links links = each read_link tt links
+
+-- Behind the call without options links of objects that it answered are read, each at a place where the class has a relationship. Each of
+-- these calls too writes first what is to be written.
+pub record AreReadInTurn (mapped : Mapped) (class : ClassId) (objects : List ObjId) (links : List (ObjId × RelNo)) (first lazy : World) : Type 0 where
+  pub are : All (IsLinkOf mapped class objects first.own.graph) links
+  pub read : Goes (read_links links) first tt lazy
+
+-- So does that link where it is one of those which are read one after another behind the call without options.
 abbrev pub CallsReadAlike : Type 0
 CallsReadAlike =
-    (query : ObjectQuery) (objects answered together : List ObjId) (world first after batch : World) (place : RelNo) (one owner other : ObjId) (related : Related) (lazy : World) → IsHale world
+    (query : ObjectQuery) (objects answered together : List ObjId) (world first after batch : World) (place : RelNo) (one owner other : ObjId) (links : List (ObjId × RelNo)) (lazy : World) → IsHale world
     → AreSelected query objects answered together world first after batch → IsOfItsRows first → IsOfItsRows batch → IsOfItsRows lazy → IsAnsweredByEach query objects answered together world first after batch place one owner other
-    → Goes (read_related one place) first related lazy
+    → AreReadInTurn (written world).own.mapping query.class objects links first lazy → list_any (is_link one place) links ≡ true
     → AreFilledAlike (written world).own.mapping (relation_of (written world).own.mapping query.class place)
     (related_to (written world).own.mapping (relation_of (written world).own.mapping query.class place) (bare (written world).store.tables)
     (rows_of (written world).own.mapping (bare (written world).store.tables) (relation_of (written world).own.mapping query.class place).target) first.own.graph one)

@@ -77,9 +77,9 @@ pub fn calls_fill_alike()
     an_answered_flush_of_a_told_session_leaves_sound();
 }
 
-/// So does the link of the object that the call without options answered, where it is read behind that call: with objects of the same
-/// identities, in the same order, as both calls with options filled it. Behind the read too persistent objects are to be of the classes
-/// that their rows name.
+/// So does the link of the object that the call without options answered, where it is one of those that are read one after another behind
+/// that call: with objects of the same identities, in the same order, as both calls with options filled it. Behind the reads too
+/// persistent objects are to be of the classes that their rows name.
 pub fn calls_read_alike()
     ensures { CallsReadAlike }
 {

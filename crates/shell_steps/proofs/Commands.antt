@@ -1,5 +1,5 @@
 -- Commands of the session: performed, and told.
-use Rattle.std.proofs.Common.{◌≡◌, ℕ, length, Bool, true, false, List, Option, None, Some, Result, Ok, Err, IsErrAnd, IfOk, MatchBool, refl, sym, ap, ◌∙◌, subst}
+use Rattle.std.proofs.Common.{◌≡◌, ℕ, length, Bool, true, false, List, Option, None, Some, Result, Ok, Err, IfOk, MatchBool, refl, sym, ap, ◌∙◌, subst}
 use Rattle.base_core.specs.declared.refusal.Refusal.{Refusal}
 use Rattle.base_core.specs.declared.refusal.Refusal.TheVariants.{InvalidRequestError, Memory}
 use Rattle.base_core.specs.declared.refusal.RequestKind.TheVariants.{NotConfigured}
@@ -9,7 +9,6 @@ use Rattle.keeper_core.specs.Store.{Store}
 use Rattle.keeper_core.specs.Programs.{Run, ends_early, quiet, refuse}
 use Rattle.keeper_core.specs.Moment.{AsTold, IsCutOff, IsRun, Moment, Outcome, Ran, Runs, Told}
 use Rattle.keeper_core.specs.Beside.{Beside, moment_beside, on_own, told_beside}
-use Rattle.keeper_core.specs.Alone.{alone}
 use Rattle.keeper_core.proofs.AloneLemmas.{alone_lost, alone_ok, beside_alone}
 use Rattle.keeper_core.proofs.Lifting.{chosen, same_beside}
 use Rattle.keeper_core.proofs.Sequence.{refused, then_err, then_ok}
@@ -128,12 +127,8 @@ tells_view it inside own names reply here is text =
     subst (λ (s : ShellState). IsShellCallAlone (tell_answer it) s (Ok reply) (record inside { names = names })) here (tells_answer it inside names reply is text)
 
 -- memory ran out
-pub tells_lost : (it : Answer) (own after : ShellState) (e : Refusal) (r : Result (List ℕ) Refusal) → IsErrAnd r (λ d. d ≡ e) → e ≡ Memory → after.stage ≡ own.stage → IsShellCallAlone (tell_answer it) own r after
-tells_lost it own after e (Ok reply) same cause is = absurd same
-tells_lost it own after e (Err d) same cause is = record {
-  step = subst (λ (c : Refusal). Runs alone (λ (text : List ℕ). text) (tell_answer it) own (Err c) after) (sym (same ∙ cause)) alone_lost;
-  stage = is;
-}
+pub tells_lost : (it : Answer) (own after : ShellState) → after.stage ≡ own.stage → IsShellCallAlone {A = List ℕ} (tell_answer it) own (Err Memory) after
+tells_lost it own after is = record { step = alone_lost; stage = is }
 
 ready_same : (r : Result (List ℕ) Refusal) (old new : Stage) (moment : Moment Store) → new ≡ old → IsReady old moment → StaysReady r new moment
 ready_same (Ok x) old new moment is ready = subst (λ (s : Stage). IsReady s moment) (sym is) ready

@@ -1,15 +1,16 @@
 -- Replies to refused lines, the reply at a script's end, and the closing of the session.
-use Rattle.std.proofs.Common.{◌≡◌, ℕ, true, false, List, [], ◌++◌, length, None, Some, Result, Ok, Err, IfErr, IsErrAnd, OnOk, refl, sym, ap, ◌∙◌, subst}
+use Rattle.std.proofs.Common.{◌≡◌, ℕ, true, false, List, [], ◌++◌, length, None, Some, Result, Ok, Err, IfErr, IfOk, IsErrAnd, OnOk, refl, sym, ap, ◌∙◌, subst}
+use Rattle.std.specs.declared.alloc.AllocError.{AllocError}
 use Rattle.base_core.specs.declared.refusal.Refusal.{Refusal}
 use Rattle.base_core.specs.declared.refusal.Refusal.TheVariants.{Memory, ScriptError}
 use Rattle.class_mapping.specs.Mapped.{Mapped}
 use Rattle.class_types.specs.Rules.{Rules}
 use Rattle.keeper_core.specs.Store.{Store}
-use Rattle.keeper_core.specs.Programs.{ask, ends_early, give, quiet}
+use Rattle.keeper_core.specs.Programs.{as_refusal, ask, ends_early, give, quiet}
 use Rattle.keeper_core.specs.Moment.{Moment, Ran, Runs}
 use Rattle.keeper_core.specs.Beside.{by_own, moment_answering, moment_beside, on_own}
 use Rattle.keeper_core.specs.Alone.{alone}
-use Rattle.keeper_core.proofs.AloneLemmas.{alone_ok, alone_same, answering_alone, asked_ok, change_ok, lost_alone}
+use Rattle.keeper_core.proofs.AloneLemmas.{alone_lost, alone_ok, alone_same, answering_alone, asked_ok, change_ok}
 use Rattle.keeper_core.proofs.Lifting.{same_beside}
 use Rattle.keeper_core.proofs.Recovering.{answering_ends, caught_early, caught_ok, caught_refused}
 use Rattle.keeper_core.proofs.Sequence.{done as given, then_err, then_ok}
@@ -24,7 +25,7 @@ use Rattle.shell_stage.specs.Stages.{IsKept, IsReady}
 use Rattle.shell_stage.specs.Step.{notes_at, without_notes}
 use Rattle.shell_steps.specs.Calls.{IsShellCallAlone}
 use Rattle.shell_steps.specs.ShellState.{ShellState}
-use Rattle.shell_steps.specs.Step.{answer_to, at_stage, close_session, close_session_at, close_stage, end_of_script, end_of_script_in, error_text, in_session, line_step, notes_told, reply_to, shell_refused, tell, tell_here, tell_notes, with_session}
+use Rattle.shell_steps.specs.Step.{answer_to, at_stage, close_session, close_session_at, close_stage, end_of_script, end_of_script_in, end_reply, error_text, in_session, line_step, notes_told, reply_to, shell_refused, tell, tell_here, tell_notes, with_session}
 use Rattle.shell_steps.proofs.Commands.{session_runs}
 
 -- ---- replies
@@ -37,10 +38,6 @@ told_text number e {own = own} {now = now} is text = record {
   stage = ap (λ (s : ShellState). s.stage) is;
 }
 
--- memory ran out
-pub told_none : (number : ℕ) (e : Refusal) {own now : ShellState} {d : Refusal} → now ≡ shell_refused own → d ≡ Memory → IsShellCallAlone (tell number e) own (Err d) now
-told_none number e is cause = record { step = lost_alone cause; stage = ap (λ (s : ShellState). s.stage) is }
-
 -- no block was opened at the end
 pub ended_none : {own : ShellState} {reply : List ℕ} → own.desk.block ≡ None → reply ≡ [] → IsShellCallAlone end_of_script own (Ok reply) own
 unfolding end_of_script
@@ -50,14 +47,28 @@ ended_none {own = own} {reply = reply} none is = record {
 }
 
 -- a block was opened at the end
-pub ended_some : {own now : ShellState} {block : Block} {r : Result (List ℕ) Refusal} → own.desk.block ≡ Some block → IsShellCallAlone (tell block.first (ScriptError block.first 1)) own r now → IsShellCallAlone end_of_script own r now
+pub ended_some : (own now : ShellState) (block : Block) (r : Result (List ℕ) AllocError) → own.desk.block ≡ Some block → IfOk r (λ (reply : List ℕ). IsShellCallAlone (tell block.first (ScriptError block.first 1)) own (Ok reply) now)
+    → IfOk r (λ (reply : List ℕ). IsShellCallAlone end_of_script own (Ok reply) now)
 unfolding end_of_script
-ended_some {own = own} {block = block} some p = record {
+ended_some own now block (Ok reply) some p = record {
   step = alone_same (tell block.first (ScriptError block.first 1)) end_of_script (sym (ap (λ block. end_of_script_in block own) some)) p.step;
   stage = p.stage;
 }
+ended_some own now block (Err e) some p = tt
 
-pub ruleset telling = (told_text, told_none, ended_none, ended_some)
+pub ruleset telling = (told_text, ended_none, ended_some)
+
+-- the end was answered, or memory ran out
+pub end_told : {K : Type 0} (moment : K → Moment Store) {own now : ShellState} {keeper : K} (r : Result (List ℕ) AllocError) → IfOk r (λ (reply : List ℕ). IsShellCallAlone end_of_script own (Ok reply) now)
+    → Runs (moment_answering moment) (λ (reply : List ℕ). reply) end_reply (own, keeper) (as_refusal (λ (e : AllocError). Memory) r) (now, keeper)
+unfolding end_reply
+end_told moment (Ok reply) ended = answering_alone moment ended.step
+end_told moment (Err e) ended = answering_alone moment alone_lost
+
+-- a run for which memory ran out is ended early
+pub early_memory : {X : Type 0} (r : Result X Refusal) → IsErrAnd r (λ d. d ≡ Memory) → IfErr r (λ e. ends_early e ≡ true)
+early_memory (Ok x) is = absurd is
+early_memory (Err e) is = ap ends_early is
 
 told_here : {X : Type 0} {v : X → List ℕ} (e : Refusal) {own now : ShellState} {r : Result X Refusal} → Runs alone v (tell own.desk.line e) own r now → Runs alone v (tell_here e) own r now
 unfolding alone
@@ -95,11 +106,6 @@ notes_told_view reply told inside own stage here is next =
 
 pub notes_kept_view : (inside own : ShellState) (stage : Stage) → inside ≡ own → IsKept inside.stage stage → IsKept own.stage stage
 notes_kept_view inside own stage here kept = subst (λ (s : ShellState). IsKept s.stage stage) here kept
-
--- memory ran out
-pub notes_lost : (reply : List ℕ) (own : ShellState) (e : Refusal) (r : Result (List ℕ) Refusal) → IsErrAnd r (λ d. d ≡ e) → e ≡ Memory → Runs alone (λ (text : List ℕ). text) (tell_notes reply) own r own
-notes_lost reply own e (Ok told) same cause = absurd same
-notes_lost reply own e (Err d) same cause = lost_alone (same ∙ cause)
 
 pub with_notes_view : (inside own : ShellState) (line : ℕ) (first mid last reply : List ℕ)
     → inside ≡ own → first ≡ [] → line ≡ inside.desk.line → mid ≡ first ++ notes_at inside.options line inside.stage → last ≡ mid ++ reply → last ≡ notes_told own ++ reply

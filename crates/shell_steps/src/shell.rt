@@ -1,9 +1,9 @@
 //! The state of a run between two lines, and what a line answers.
 
-ghost use Rattle.std.specs.Prelude.{◌≡◌, ◌++◌, true, IfErr, IfOk, OnOk};
+ghost use Rattle.std.specs.Prelude.{◌≡◌, ◌++◌, true, Ok, IfErr, IfOk, OnOk};
 ghost use Rattle.class_types.specs.Shown.{rules_of};
 ghost use Rattle.keeper_core.specs.Alone.{alone};
-ghost use Rattle.keeper_core.specs.Programs.{ends_early};
+ghost use Rattle.keeper_core.specs.Programs.{as_refusal, ends_early};
 ghost use Rattle.keeper_core.specs.Moment.{Runs};
 ghost use Rattle.keeper_core.specs.Beside.{moment_answering, on_own};
 ghost use Rattle.sayable_lines.specs.Sayable.{IsSayable};
@@ -111,7 +111,7 @@ impl Shell {
         ensures stops { IfErr result (λ e. ends_early e ≡ true) }
     {
         let reply = self.answer_alone(keeper, hooks, line)?;
-        self.tell_notes(reply)
+        Ok(self.tell_notes(reply)?)
     }
 
     /// Does a line, and answers what it wrote, or why it is refused.
@@ -136,16 +136,16 @@ impl Shell {
                     return Err(refusal);
                 }
                 let number = self.number();
-                self.tell(number, refusal)
+                Ok(self.tell(number, refusal)?)
             }
         }
     }
 
-    /// What is told of what the line did goes before its reply, and is forgotten. The only refusal is `Memory`.
-    fn tell_notes(&mut self, reply: Reply) -> Result<Reply, Refusal>
-        ensures step { Runs alone (λ reply. reply) (step.tell_notes reply) self.old result self.new }
+    /// What is told of what the line did goes before its reply, and is forgotten.
+    fn tell_notes(&mut self, reply: Reply) -> Result<Reply, AllocError>
+        ensures step { IfOk result (λ told. Runs alone (λ reply. reply)
+            (step.tell_notes reply) self.old (Ok told) self.new) }
         ensures kept { IsKept self.old.stage self.new.stage }
-        ensures cause { IfErr result (λ e. e ≡ Refusal.Memory) }
     {
         let told = self.with_notes(&reply)?;
         self.stage.forget_notes();
@@ -279,7 +279,7 @@ impl Shell {
             (self.old, keeper.old) result (self.new, keeper.new) }
     {
         let answer = self.perform(keeper, hooks, command)?;
-        self.tell_answer(answer)
+        Ok(self.tell_answer(answer)?)
     }
 
     /// Does a command of the session.
@@ -313,23 +313,25 @@ impl Shell {
         )
     }
 
-    /// The reply that tells of an answer; what is to be bound is bound. The only refusal is `Memory`.
+    /// The reply that tells of an answer; what is to be bound is bound.
     #[tactic(auto, using(shell_stage::proofs::Bindings::bindings), unfolding(crate::specs::Step::tell_answer))]
-    fn tell_answer(&mut self, answer: Answer) -> Result<Reply, Refusal>
+    fn tell_answer(&mut self, answer: Answer) -> Result<Reply, AllocError>
         requires { IsAnswerAt self.old.stage answer }
-        ensures call { IsShellCallAlone (step.tell_answer answer) self.old result self.new }
-        ensures cause { IfErr result (λ e. e ≡ Refusal.Memory) }
+        ensures call { IfOk result (λ reply. IsShellCallAlone
+            (step.tell_answer answer) self.old (Ok reply) self.new) }
+        ensures stage { self.new.stage ≡ self.old.stage }
     {
         let reply = self.stage.reply_to(self.alloc, &answer)?;
         bind(&mut self.names, answer)?;
         Ok(reply)
     }
 
-    /// The reply that says why the line of this number is refused. The only refusal is `Memory`.
+    /// The reply that says why the line of this number is refused.
     #[tactic(auto, using(crate::proofs::Replying::telling))]
-    fn tell(&mut self, number: u32, refusal: Refusal) -> Result<Reply, Refusal>
-        ensures call { IsShellCallAlone (step.tell number refusal) self.old result self.new }
-        ensures cause { IfErr result (λ e. e ≡ Refusal.Memory) }
+    fn tell(&mut self, number: u32, refusal: Refusal) -> Result<Reply, AllocError>
+        ensures call { IfOk result (λ reply. IsShellCallAlone
+            (step.tell number refusal) self.old (Ok reply) self.new) }
+        ensures stage { self.new.stage ≡ self.old.stage }
     {
         self.desk.refuse();
         let mut reply = Reply::new(self.alloc);
@@ -339,22 +341,22 @@ impl Shell {
         Ok(reply)
     }
 
-    /// The script has ended: a block that is open is refused at its first line. The only refusal is `Memory`.
-    #[tactic(auto, using(keeper_core::proofs::AloneLemmas::answering_alone), unfolding(crate::specs::Step::end_reply))]
-    pub fn answer_end<K: Keeper>(&mut self, keeper: &K) -> Result<Reply, Refusal>
+    /// The script has ended: a block that is open is refused at its first line.
+    pub fn answer_end<K: Keeper>(&mut self, keeper: &K) -> Result<Reply, AllocError>
         ensures step { Runs (moment_answering K.moment)
-            (λ reply. reply) step.end_reply (self.old, keeper.now) result (self.new, keeper.now) }
+            (λ reply. reply) step.end_reply (self.old, keeper.now)
+            (as_refusal (λ e. Refusal.Memory) result) (self.new, keeper.now) }
         ensures stage { self.new.stage ≡ self.old.stage }
-        ensures cause { IfErr result (λ e. e ≡ Refusal.Memory) }
     {
         self.tell_end()
     }
 
     /// The reply at the script's end.
     #[tactic(auto, using(crate::proofs::Replying::telling))]
-    fn tell_end(&mut self) -> Result<Reply, Refusal>
-        ensures call { IsShellCallAlone step.end_of_script self.old result self.new }
-        ensures cause { IfErr result (λ e. e ≡ Refusal.Memory) }
+    fn tell_end(&mut self) -> Result<Reply, AllocError>
+        ensures call { IfOk result (λ reply. IsShellCallAlone
+            step.end_of_script self.old (Ok reply) self.new) }
+        ensures stage { self.new.stage ≡ self.old.stage }
     {
         let Some(block) = self.desk.block() else {
             return Ok(Reply::new(self.alloc));
@@ -377,7 +379,8 @@ impl Shell {
         ensures outside { OnOk result ((K.moment keeper.new).depth ≡ 0) }
     {
         self.close_stage(keeper)?;
-        self.tell_notes(Reply::new(self.alloc))
+        let nothing = Reply::new(self.alloc);
+        Ok(self.tell_notes(nothing)?)
     }
 
     /// Closes the session, where there is one.

@@ -14,6 +14,7 @@ use Rattle.expr_types.specs.declared.expr.Expr.TheFolds.{map-Expr, fold-roll-Exp
 use Rattle.expr_types.specs.declared.expr.Expr.TheVariants as expr
 use Rattle.expr_types.specs.Level.{operands, scope_below}
 use Rattle.expr_types.proofs.Folds.{fold-Column, fold-Lit, fold-Compare, fold-IsNull, fold-And, fold-Or, fold-Not, fold-Arith, fold-Neg, fold-Concat, fold-Like, fold-Ilike, fold-InList, fold-Between, fold-Distinct, fold-Call, fold-CountAll, fold-Exists}
+use Rattle.sql_semantics.specs.Arithmetic.{arithmetic_level, has_arithmetic}
 use Rattle.sql_semantics.specs.Kinds.{Scope, Judged, expression_kind, judged_level}
 use Rattle.sql_semantics.specs.Plain.{Found, fits, fits_level, full_level, has_full_lists, is_well_grouped, is_well_grouped_level}
 use Rattle.sql_semantics.specs.Eval.{Meaning, meaning_of, meaning}
@@ -32,6 +33,10 @@ with_settled own e = (e, is_well_grouped true [] own e)
 pub rolled : (x : Expr-F Expr) → meaning_of (roll-Expr x) ≡ meaning (map-Expr Expr Meaning meaning_of x)
 unfolding meaning_of
 rolled x = fold-roll-Expr Meaning meaning x
+
+pub arithmetic_rolled : (x : Expr-F Expr) → has_arithmetic (roll-Expr x) ≡ arithmetic_level (map-Expr Expr Bool has_arithmetic x)
+unfolding has_arithmetic
+arithmetic_rolled x = fold-roll-Expr Bool arithmetic_level x
 
 pub fits_rolled : (schema : Catalog) (scope : Scope) (x : Expr-F Expr) → fits schema (roll-Expr x) scope ≡ fits_step schema (map-Expr Expr (Scope → Bool) (fits schema) x) scope
 unfolding fits

@@ -14,4 +14,5 @@ pub mod Shapes
 pub mod SelectRefusals
 pub mod Taken
 pub mod Applied
+pub mod Arithmetic
 pub mod BulkRefusals

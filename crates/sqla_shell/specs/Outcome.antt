@@ -7,6 +7,7 @@ use Rattle.keeper_core.specs.Store.{Store}
 use Rattle.keeper_core.specs.Programs.{Event, Log, Run, Sends, after_events, each}
 use Rattle.keeper_core.specs.Moment.{Moment, Told, Runs}
 use Rattle.keeper_core.specs.Keeping.{IsOpened}
+use Rattle.schema_core.specs.Tables.{Tables}
 use Rattle.keeper_core.specs.declared.target.Target.{Target}
 use Rattle.keeper_core.specs.declared.target.Target.TheVariants as targets
 use Rattle.keeper_core.specs.Beside.{Beside}
@@ -130,29 +131,29 @@ abbrev pub IsSilent : Target → Option (Told Store) → Type 0
 IsSilent targets.Memory told = told ≡ None
 IsSilent (targets.File name) told = Unit {0}
 
--- the run over a keeper that took its target: there are tables with which it began, none in memory
-abbrev pub IsTakenRun : PrintOptions → Rules → Target → Option (List ℕ) → Option (List ℕ) → Option (Told Store) → Status → Option (List ℕ) → Option (Told Store) → Type 0
-IsTakenRun options rules target None before told end written now = Unit {0}
-IsTakenRun options rules target (Some bytes) None told end written now = Unit {0}
-IsTakenRun options rules target (Some bytes) (Some before) told end written None = IsSilent target told
-IsTakenRun options rules target (Some bytes) (Some before) told end None (Some now) = ⊥
-IsTakenRun options rules target (Some bytes) (Some before) told end (Some written) (Some now) =
-    (first : Told Store) × IsOpened target first × EndsOver options rules bytes first before end now written
+-- The run over a keeper that took its target. It began with the tables in that: none in memory, and these in a file.
+abbrev pub IsTakenRun : PrintOptions → Rules → Target → Option Tables → Option (List ℕ) → Option (List ℕ) → Option (Told Store) → Status → Option (List ℕ) → Option (Told Store) → Type 0
+IsTakenRun options rules target opening None before told end written now = Unit {0}
+IsTakenRun options rules target opening (Some bytes) None told end written now = Unit {0}
+IsTakenRun options rules target opening (Some bytes) (Some before) told end written None = IsSilent target told
+IsTakenRun options rules target opening (Some bytes) (Some before) told end None (Some now) = ⊥
+IsTakenRun options rules target opening (Some bytes) (Some before) told end (Some written) (Some now) =
+    (first : Told Store) × IsOpened target first × (opening ≡ Some first.world.tables) × EndsOver options rules bytes first before end now written
 
 -- a keeper that did not take its target: nothing is read, nothing goes out, and what it tells is as it was
 abbrev pub IsUntaken : Seen → Status → Seen → Type 0
 IsUntaken old end new =
     (new.left ≡ old.left) × (new.written ≡ old.written) × (new.keeper.told ≡ old.keeper.told) × ((end ≡ status.KeeperFault) ⊎ (end ≡ status.Memory))
 
-abbrev pub IsReferenceWhere : Bool → PrintOptions → Rules → Target → Seen → Status → Seen → Type 0
-IsReferenceWhere true options rules target old end new = IsTakenRun options rules target old.left old.written old.keeper.told end new.written new.keeper.told
-IsReferenceWhere false options rules target old end new = IsUntaken old end new
+abbrev pub IsReferenceWhere : Bool → PrintOptions → Rules → Target → Option Tables → Seen → Status → Seen → Type 0
+IsReferenceWhere true options rules target opening old end new = IsTakenRun options rules target opening old.left old.written old.keeper.told end new.written new.keeper.told
+IsReferenceWhere false options rules target opening old end new = IsUntaken old end new
 
 -- The run of a script is the reference's: where the source tells the script's bytes, the sink what was written and the keeper its
 -- tables once it has its target, what went out, the statements sent, the status and the tables at the end are those of the
--- reference, from the tables that there were. A keeper in memory that told before goes on telling.
-abbrev pub IsReference : PrintOptions → Rules → Target → Seen → Status → Seen → Type 0
-IsReference options rules target old end new = IsReferenceWhere new.keeper.attached options rules target old end new
+-- reference, from the tables in the target. A keeper in memory that told before goes on telling.
+abbrev pub IsReference : PrintOptions → Rules → Target → Option Tables → Seen → Status → Seen → Type 0
+IsReference options rules target opening old end new = IsReferenceWhere new.keeper.attached options rules target opening old end new
 
 -- nothing is left of a script that was done to its end
 abbrev pub IsReadThrough : Status → Option (List ℕ) → Option (List ℕ) → Type 0

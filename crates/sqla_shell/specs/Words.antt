@@ -1,6 +1,7 @@
 -- What the words after the program's name make of a run.
-use Rattle.std.specs.Prelude.{◌≡◌, Some, ◌⊎◌}
+use Rattle.std.specs.Prelude.{◌≡◌, Option, Some, ◌⊎◌}
 use Rattle.class_types.specs.Rules.{Rules}
+use Rattle.schema_core.specs.Tables.{Tables}
 use Rattle.keeper_core.specs.declared.keeper.KeeperStop.{KeeperStop}
 use Rattle.keeper_core.specs.declared.keeper.KeeperStop.TheVariants as stops
 use Rattle.program_words.specs.declared.options.Options.{Options}
@@ -17,9 +18,10 @@ use Rattle.sqla_shell.specs.declared.status.Status.TheVariants as status
 abbrev pub print_options : Options → PrintOptions
 print_options options = record { dialect = options.dialect; echo = options.echo }
 
--- the run is the reference's, or memory ran out before anything happened
-abbrev pub IsRun : Options → Rules → Seen → Status → Seen → Type 0
-IsRun options rules old end new = ((end ≡ status.Memory) × (new ≡ old)) ⊎ IsReference (print_options options) rules options.target old end new
+-- the run is the reference's from the tables in the target that the words name, or memory ran out before anything happened
+abbrev pub IsRun : Options → Rules → (Target → Option Tables) → Seen → Status → Seen → Type 0
+IsRun options rules opening old end new =
+    ((end ≡ status.Memory) × (new ≡ old)) ⊎ IsReference (print_options options) rules options.target (opening options.target) old end new
 
 -- the keeper was given the target, or memory ran out before that
 abbrev pub IsGiven : Moment Store → Target → Status → Moment Store → Type 0

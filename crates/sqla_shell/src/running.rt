@@ -32,8 +32,9 @@ const USAGE: &[u8] = b"usage: sqla [--dialect D] [--echo] [--store FILE] [--gene
 /// it, the keeper's transaction is rolled back.
 ///
 /// Where the source, the sink and the keeper tell what they have, the keeper once it has its target, what is written, the statements
-/// that are sent, the status and the tables at the end are those of the reference session (`specs/Reference.antt`), from tables with
-/// which the keeper began, where no statement had been sent: none in memory, and some that ascend in a file.
+/// that are sent, the status and the tables at the end are those of the reference session (`specs/Reference.antt`), from the tables
+/// in the target, where no statement had been sent: none in memory, and in a file those that the keeper was to tell of it, which
+/// ascend.
 pub fn run<S: Source, O: Sink, K: Keeper>(
     alloc: Global,
     words: &Vec<String>,
@@ -53,11 +54,12 @@ pub fn run<S: Source, O: Sink, K: Keeper>(
     // Where the keeper was given no target, it is as before, and nothing was read.
     ensures ungiven { (K.moment keeper.new).target ≡ None → keeper.new ≡ keeper.old }
     ensures unasked { (K.moment keeper.new).target ≡ None → source.new ≡ source.old }
-    // With words of the program the run is the reference's, over tables with which its keeper began once it had its target.
+    // With words of the program the run is the reference's, from the tables in the target that they name.
     ensures reference { (options : Options) →
         options_asked (map string_bytes words.now.items) ≡ Some options
         → IsRun options
         (rules_of hooks.now)
+        (K.opening keeper.old)
         (moment_seen (S.left source.old) (S.faults source.old) (O.written sink.old) (O.faults sink.old)
         (K.moment keeper.old))
         result
@@ -101,6 +103,7 @@ fn run_with<S: Source, O: Sink, K: Keeper>(
 ) -> Status
     requires { (K.moment keeper.old).target ≡ None }
     ensures reference { IsReference (print_options options) (rules_of hooks.now) options.target
+        (K.opening keeper.old options.target)
         (moment_seen (S.left source.old) (S.faults source.old) (O.written sink.old) (O.faults sink.old)
         (K.moment keeper.old))
         result

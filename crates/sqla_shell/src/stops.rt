@@ -1,11 +1,13 @@
 //! The causes of the layers below as causes of a run's stop.
 
 ghost use Rattle.std.specs.Prelude.{◌≡◌};
+ghost use Rattle.sqla_shell.specs.declared.stop.Stop.TheVariants.{Memory};
 ghost use Rattle.sqla_shell.specs.Causes.{keeper_stop, read_stop, write_stop};
 
 use crate::stop::Stop;
 use base_core::Refusal;
 use byte_streams::{ReadStop, SinkStop};
+use std::alloc::AllocError;
 
 impl From<ReadStop> for Stop {
     ghost from_gives = { λ stop own. own ≡ read_stop stop };
@@ -26,6 +28,14 @@ impl From<SinkStop> for Stop {
             SinkStop::Fault => Stop::Write,
             SinkStop::Memory => Stop::Memory,
         }
+    }
+}
+
+impl From<AllocError> for Stop {
+    ghost from_gives = { λ _ own. own ≡ Memory };
+
+    fn from(_e: AllocError) -> Stop {
+        Stop::Memory
     }
 }
 

@@ -7,6 +7,7 @@ pub mod EachJoin
 pub mod Entries
 mod Evaluated
 pub mod HeldRows
+mod Keeping
 pub mod Legality
 pub mod Members
 pub mod OneByOne

@@ -1,3 +1,4 @@
+pub mod Filters
 pub mod Legality
 pub mod OneByOne
 pub mod Savepoints

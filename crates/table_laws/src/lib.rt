@@ -1,10 +1,11 @@
-//! What follows from the definitions of tables; and laws of the programs of the store: what they leave legal, and what a savepoint and
-//! the rollback to it leave. Each law is the contract of a function that does nothing, so there is no body that could be turned into
-//! a wrong one.
+//! What follows from the definitions of tables, and of the lists of selects and bulk statements; and laws of the programs of the store: what
+//! they leave legal, and what a savepoint and the rollback to it leave. Each law is the contract of a function that does nothing, so there
+//! is no body that could be turned into a wrong one.
 #![tactic(auto)]
 
 mod bulk;
 mod calls;
+mod filters;
 mod joined;
 mod legal;
 mod order;
@@ -15,6 +16,7 @@ mod worked;
 
 pub use bulk::accepted_bulk_is_legal;
 pub use calls::{calls_keep_ascending, calls_keep_legal, drop_all_keeps_legal};
+pub use filters::{given_are_joined, kept_are_filtered, taken_are_filtered};
 pub use joined::{
     joined_programs_keep_legal, programs_beside_keep_legal, quiet_programs_keep_legal,
 };

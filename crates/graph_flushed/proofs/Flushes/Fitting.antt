@@ -1,6 +1,5 @@
 -- What a flush writes fits the mapping.
-use Rattle.std.proofs.Common.{◌≡◌, ◌<◌, true, false, ◌&&◌, ◌==◌, length, sym, ap, ◌∙◌}
-use Rattle.std.specs.List.{list_any}
+use Rattle.std.proofs.Common.{◌<◌, length}
 use Rattle.std.proofs.lemmas.Option.{slice_get-get_or}
 use Rattle.base_core.specs.declared.ids.AttrNo.{AttrNo}
 use Rattle.base_core.specs.declared.ids.ClassId.{ClassId}
@@ -16,13 +15,10 @@ attribute_there : (mapped : Mapped) (class : ClassId) (attr : AttrNo) → attr.0
 attribute_there mapped class attr less = has_at (attributes_of mapped class) attr.0 (attribute_of mapped class attr) (slice_get-get_or (attributes_of mapped class) attr.0 no_attribute less)
 
 pub flushes_fit : FlushesFit
-flushes_fit mapped graph prepared changes keys has related fit cleared = record {
+flushes_fit mapped graph prepared changes keys has related fit clearable = record {
   come = λ object attr there.
-      come_fits mapped graph prepared changes keys has related fit cleared object (attribute_of mapped (object_at graph object).class attr) there.0 (attribute_there mapped (object_at graph object).class attr there.1);
+      come_fits mapped graph prepared changes keys has related fit object (attribute_of mapped (object_at graph object).class attr) there.0 (attribute_there mapped (object_at graph object).class attr there.1);
   told = λ object attr there told.
       told_fits mapped (object_at graph object).class (attribute_of mapped (object_at graph object).class attr) has (fit_class mapped graph object fit there.0) (attribute_there mapped (object_at graph object).class attr there.1) told;
-  cleared = λ object relation made is.
-      absurd (let e : false ≡ true = sym (ap (list_any (λ one. one.0.0 == object.0 && one.1.0 == relation.0)) cleared) ∙ is in cc);
+  cleared = clearable;
 }
-
-pub ruleset fitting = (flushes_fit)

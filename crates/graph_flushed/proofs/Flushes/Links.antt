@@ -190,7 +190,7 @@ new_key_fits mapped graph prepared changes keys object made =
 
 -- ---- what comes
 
-module _ (mapped : Mapped) (graph : Graph) (prepared : Prepared) (changes : RowChanges) (keys : List (List Value)) (has : HasHierarchies mapped) (related : AreRelated mapped) (fit : IsFit mapped graph) (cleared : prepared.cleared ≡ []) where
+module _ (mapped : Mapped) (graph : Graph) (prepared : Prepared) (changes : RowChanges) (keys : List (List Value)) (has : HasHierarchies mapped) (related : AreRelated mapped) (fit : IsFit mapped graph) where
   abbrev written : Written
   written = written_with mapped prepared changes keys graph
 
@@ -203,22 +203,29 @@ module _ (mapped : Mapped) (graph : Graph) (prepared : Prepared) (changes : RowC
   abbrev relations_at : ObjId → List Relation
   relations_at object = relations_of mapped (class_at object)
 
-  none_cleared : (object : ObjId) (relation : RelNo) → is_cleared prepared object relation ≡ false
-  none_cleared object relation = ap (list_any (λ one. one.0.0 == object.0 && one.1.0 == relation.0)) cleared
-
   -- the object at the end of a changed link
   link_end : (object : ObjId) (i : ℕ) (relation : Relation) (end : Option ObjId) (other : ObjId) → IsObject graph object → slice_get (relations_at object) i ≡ Some relation
       → end_put graph prepared object (record { 0 = i }) ≡ Some end → end ≡ Some other → IsEnd mapped graph relation.target other
-  link_end object i relation end other made at put is =
-      let number : RelNo = record { 0 = i } in
-      let links : List Link = (object_at graph object).links in
-      let link : Link = get_or links i Unset in
-      let changed : changed_end link ≡ Some end = ap (λ (b : Bool). if b then Some None else changed_end link) (sym (none_cleared object number)) ∙ put in
-      let less : i < length (relations_at object) = slice_get_within (relations_at object) i relation at in
-      let fits : link_fits mapped graph.roots (get_or (relations_at object) i no_relation) link ≡ true = pointwise_at (link_fits mapped graph.roots) (relations_at object) links i no_relation Unset (fit_links mapped graph object fit made) less in
-      let held : held_fit graph.roots (root_of mapped relation.target) relation.many link ≡ true =
-      subst (λ (r : Relation). link_fits mapped graph.roots r link ≡ true) (get_or_from_slice_get (relations_at object) i relation no_relation at) fits in
-      end_is mapped graph relation.target other fit (one_end link end changed graph.roots (root_of mapped relation.target) relation.many held other is)
+  link_end object i relation end other made at put is = by (is_cleared prepared object number) (put ∙ ap (λ (e : Option ObjId). Some e) is)
+    where
+      number : RelNo
+      number = record { 0 = i }
+
+      links : List Link
+      links = (object_at graph object).links
+
+      link : Link
+      link = get_or links i Unset
+
+      -- a link that becomes none has no end
+      by : (b : Bool) → (if b then Some None else changed_end link) ≡ Some (Some other) → IsEnd mapped graph relation.target other
+      by true e = absurd cc
+      by false e =
+          let less : i < length (relations_at object) = slice_get_within (relations_at object) i relation at in
+          let fits : link_fits mapped graph.roots (get_or (relations_at object) i no_relation) link ≡ true = pointwise_at (link_fits mapped graph.roots) (relations_at object) links i no_relation Unset (fit_links mapped graph object fit made) less in
+          let held : held_fit graph.roots (root_of mapped relation.target) relation.many link ≡ true =
+          subst (λ (r : Relation). link_fits mapped graph.roots r link ≡ true) (get_or_from_slice_get (relations_at object) i relation no_relation at) fits in
+          end_is mapped graph relation.target other fit (one_end link (Some other) e graph.roots (root_of mapped relation.target) relation.many held other refl)
 
   row_object : (target : Option TableId) (object : ObjId) (place : ℕ) → place_among rows target object ≡ Some place → (get_or rows place no_row).object ≡ object
   row_object None object place h = absurd cc

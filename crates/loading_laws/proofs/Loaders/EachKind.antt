@@ -94,7 +94,7 @@ module _ (mapped : Mapped) (relation : Relation) (place : RelNo) (w : World) (ow
   owned_at = subst (IsAt mapped own.class place.0) owned.is (slice_get-get_or (relations_of mapped own.class) place.0 no_relation owned.within)
 
   pub owned_keyed : is_key (root_spec mapped relation.class) (identity_key w.own.graph owner) ≡ true
-  owned_keyed = (owner_keyed mapped w.own.graph relation place owner own stage.has stage.related owned own_fits refl (stage.graph.identified (place_of owner) no_object own_less)).keyed
+  owned_keyed = (owner_keyed mapped w.own.graph relation place owner own owned own_fits refl (stage.graph.identified (place_of owner) no_object own_less)).keyed stage.has stage.related
 
 pub opened : (mapped : Mapped) (relation : Relation) (place : RelNo) (w : World) (owner : ObjId) → IsStage mapped w → IsReady mapped relation place w.own.graph owner → is_unloaded (link_at w.own.graph owner place) ≡ true → IsOpen mapped relation place w.own.graph owner
 opened mapped relation place w owner stage ready unloaded = record {

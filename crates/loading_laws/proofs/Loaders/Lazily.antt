@@ -49,9 +49,9 @@ use Rattle.loading_laws.proofs.Loaders.Loads.{lazily, lazy_by}
 
 -- ---- what one read leaves
 
-record IsReadAt (place : RelNo) (owner : ObjId) (w v : World) : Type 0 where
-  left : LeavesOthers place owner w.own.graph v.own.graph
-  store : v.store ≡ w.store
+pub record IsReadAt (place : RelNo) (owner : ObjId) (w v : World) : Type 0 where
+  pub left : LeavesOthers place owner w.own.graph v.own.graph
+  pub store : v.store ≡ w.store
 
 -- objects were found or made, whose links all stay
 record IsSought (place : RelNo) (w v : World) : Type 0 where
@@ -191,7 +191,7 @@ load_goes mapped start owner place u v made kept g =
 
 module _ (mapped : Mapped) (w : World) (stage : IsStage mapped w) where
   -- one read of several
-  one_read : (object : ObjId) (other : RelNo) (u v : World) → CanBeRead mapped w.own.graph (object, other) → Kept w.own.graph u.own.graph → Goes (load_lazy mapped object other) u tt v → IsReadAt other object u v
+  pub one_read : (object : ObjId) (other : RelNo) (u v : World) → CanBeRead mapped w.own.graph (object, other) → Kept w.own.graph u.own.graph → Goes (load_lazy mapped object other) u tt v → IsReadAt other object u v
   one_read object other u v can kept g =
       let there : Relation = relation_of mapped (object_at w.own.graph object).class other in
       link_read other object mapped there stage.has (owned_related mapped there other w object stage can.owner).target u v there.many refl kept.graph (made_later w.own.graph u.own.graph object kept.stays can.owner.made)
@@ -223,14 +223,14 @@ module _ (mapped : Mapped) (relation : Relation) (place : RelNo) (owner : ObjId)
   made = ready.owner.made
 
   -- the link is filled
-  abbrev Done : World → Type 0
+  abbrev pub Done : World → Type 0
   Done u = HoldsRows mapped relation wanted (link_at start owner place) u.own.graph (link_at u.own.graph owner place)
 
   -- it waits still
-  record Waits (u : World) : Type 0 where
-    kept : Kept start u.own.graph
-    store : u.store ≡ w.store
-    link : link_at u.own.graph owner place ≡ link_at start owner place
+  pub record Waits (u : World) : Type 0 where
+    pub kept : Kept start u.own.graph
+    pub store : u.store ≡ w.store
+    pub link : link_at u.own.graph owner place ≡ link_at start owner place
 
   record Tail (u v : World) : Type 0 where
     kept : Kept u.own.graph v.own.graph
@@ -252,7 +252,7 @@ module _ (mapped : Mapped) (relation : Relation) (place : RelNo) (owner : ObjId)
       }
 
   -- its own read
-  filled_then : (u v : World) → Waits u → AgreesWithMap mapped relation all u.own.graph owner → Goes (load_lazy mapped owner place) u tt v → Done v
+  pub filled_then : (u v : World) → Waits u → AgreesWithMap mapped relation all u.own.graph owner → Goes (load_lazy mapped owner place) u tt v → Done v
   filled_then u v waits agrees g =
       let set : IsSet mapped relation all w = record { has = stage.has; related = owned_related mapped relation place w owner stage ready.owner; rooted = stage.graph.rooted; held = stage.held; rows = rows } in
       let free : IsOpen mapped relation place u.own.graph owner = open_later mapped relation place start u.own.graph owner (opened mapped relation place w owner stage ready unloaded) waits.kept (ap is_unloaded waits.link ∙ unloaded) in
@@ -262,14 +262,14 @@ module _ (mapped : Mapped) (relation : Relation) (place : RelNo) (owner : ObjId)
       (subst (λ (found : List Row). HoldsRows mapped relation found (link_at u.own.graph owner place) v.own.graph (link_at v.own.graph owner place)) (related_later mapped relation all w u owner made waits.kept waits.store ready.held) done)
 
   -- the read of another link
-  waits_then : (object : ObjId) (other : RelNo) (u v : World) → Waits u → IsReadAt other object u v → link_at v.own.graph owner place ≡ link_at u.own.graph owner place → Waits v
+  pub waits_then : (object : ObjId) (other : RelNo) (u v : World) → Waits u → IsReadAt other object u v → link_at v.own.graph owner place ≡ link_at u.own.graph owner place → Waits v
   waits_then object other u v waits one same = record {
     kept = kept_then start u.own.graph v.own.graph waits.kept (kept_by other u.own.graph v.own.graph one.left.leaves);
     store = one.store ∙ waits.store;
     link = same ∙ waits.link;
   }
 
-  link_same : (object : ObjId) (other : RelNo) (u v : World) → Waits u → IsReadAt other object u v → (a b : Bool) → (object.0 == owner.0) ≡ a → (other.0 == place.0) ≡ b → (a && b) ≡ false → link_at v.own.graph owner place ≡ link_at u.own.graph owner place
+  pub link_same : (object : ObjId) (other : RelNo) (u v : World) → Waits u → IsReadAt other object u v → (a b : Bool) → (object.0 == owner.0) ≡ a → (other.0 == place.0) ≡ b → (a && b) ≡ false → link_at v.own.graph owner place ≡ link_at u.own.graph owner place
   link_same object other u v waits one true true p q never = absurd cc
   link_same object other u v waits one true false p q never =
       let apart : (place.0 == other.0) ≡ false = ne_eqb place.0 other.0 (λ same. eqb-false other.0 place.0 q (sym same)) in
@@ -306,7 +306,7 @@ module _ (mapped : Mapped) (relation : Relation) (place : RelNo) (owner : ObjId)
       by x first one rest before false b p q more =
           more (sym (ap (λ (a : Bool). (a && (other.0 == place.0)) || list_any (is_link owner place) links) p) ∙ there) (waits_then object other u x waits one (link_same object other u x waits one false b p q refl))
 
-  began : Waits w
+  pub began : Waits w
   began = record { kept = kept_same start stage.graph; store = refl; link = refl }
 
   pub links_read : (links : List (ObjId × RelNo)) (after : World) → All (CanBeRead mapped start) links → list_any (is_link owner place) links ≡ true → AgreesWithMap mapped relation all after.own.graph owner → Goes (load_links mapped links) w tt after

@@ -1,7 +1,6 @@
 -- Loads of links leave an arena's objects that fit the mapping, over the same tables.
 use Rattle.std.proofs.Common.{◌≡◌, ◌<◌, ◌==◌, ◌&&◌, Bool, true, false, not, List, [], ◌∷◌, length, Option, None, Some, Ok, if◌then◌else◌, is_some, refl, sym, ap, subst, ◌∙◌, arith}
 use Rattle.std.specs.List.{All, AllByRecursion}
-use Rattle.std.specs.declared.alloc.AllocError.{AllocError}
 use Rattle.std.proofs.lemmas.Bool.{and_parts}
 use Rattle.std.proofs.lemmas.List.Elements.{All-from_recursion, recursion_from_All}
 use Rattle.base_core.specs.declared.ids.ClassId.{ClassId}
@@ -183,7 +182,7 @@ module _ (place : RelNo) (mapped : Mapped) where
     key_firm key v end fits g =
         let select : Select = key_select mapped class key in
         let two = parted (read mapped.schema select) (λ (rows : List Row). on_own (take_first mapped class rows)) w end v (record { answer = g.answer; leaves = g.leaves }) in
-        let plain = key_plain {E = AllocError} mapped class key (Ok select) firm.stage.has related.target fits refl in
+        let plain = key_plain mapped class key select firm.stage.has related.target fits refl in
         let sent = sent_rows select w two.value two.between firm plain two.first in
         let of = key_rows mapped class key select (Ok two.value) firm.stage.has related.target refl sent.0.kinds sent.0.given in
         let own = on_own_goes (take_first mapped class two.value) two.between end v two.second in

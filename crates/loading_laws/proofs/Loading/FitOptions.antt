@@ -127,7 +127,7 @@ module _ (place : RelNo) (mapped : Mapped) (relation : Relation) (has : HasHiera
       let owners : List Owner = first ∷ more in
       let select : Select = batch_select mapped relation (keys_of owners) in
       let two = parted (read mapped.schema select) (λ (rows : List Row). on_own (fill_batch mapped relation place owners rows)) u tt v (record { answer = g.answer; leaves = g.leaves }) in
-      let plain = batch_plain {E = AllocError} mapped relation owners (Ok select) has related many (omega arith) (keyed_all mapped u.own.graph relation place owners owned) refl in
+      let plain = batch_plain {E = AllocError} mapped relation owners (Ok select) has related many (omega arith) (keyed_all mapped u.own.graph relation place owners owned has firm.stage.related) refl in
       let sent = sent_rows place mapped select u two.value two.between firm plain two.first in
       let of = batch_rows mapped relation owners select (Ok two.value) has related refl sent.0.kinds sent.0.given in
       let own = on_own_goes (fill_batch mapped relation place owners two.value) two.between tt v two.second in
@@ -161,7 +161,7 @@ module _ (place : RelNo) (mapped : Mapped) (relation : Relation) (has : HasHiera
   all_owned u (owner ∷ owners) firm all =
       let made = all.0.made in
       let less : place_of owner < length u.own.graph.objects = omega (arith, made.0, made.1) in (
-        owner_keyed mapped u.own.graph relation place owner (object_at u.own.graph owner) has firm.stage.related all.0 (firm.stage.fit.objects (place_of owner) no_object less) refl (firm.stage.graph.identified (place_of owner) no_object less),
+        owner_keyed mapped u.own.graph relation place owner (object_at u.own.graph owner) all.0 (firm.stage.fit.objects (place_of owner) no_object less) refl (firm.stage.graph.identified (place_of owner) no_object less),
         all_owned u owners firm all.1,
       )
 

@@ -1,6 +1,7 @@
 -- How a run ends where nothing failed.
 use Rattle.std.proofs.Common.{◌≡◌, ◌⊎◌, inl, inr, ℕ, Bool, true, false, List, Option, None, Some, Result, Ok, Err, ⊎_elim, refl, sym, ap, ◌∙◌, subst}
 use Rattle.base_core.specs.declared.refusal.Refusal.{Refusal}
+use Rattle.schema_core.specs.Tables.{Tables}
 use Rattle.class_types.specs.Rules.{Rules}
 use Rattle.program_words.specs.declared.options.Options.{Options}
 use Rattle.keeper_core.specs.Keeping.{new_store}
@@ -57,20 +58,20 @@ module _ (options : PrintOptions) (rules : Rules) (bytes written : List ℕ) (to
   abbrev Reached : Status → Type 0
   Reached end = ((end ≡ status.KeeperFault) ⊎ (end ≡ status.Memory)) ⊎ ((log : Log) × Ends (reference options rules bytes) (log_with new_store.log written) end log)
 
-  taken : (before : Option (Told Store)) (end : Status) (now : Option (List ℕ)) → IsTakenRun options rules targets.Memory (Some bytes) (Some written) before end now (Some told) → Reached end
-  taken before end None is = absurd is
-  taken before end (Some now) is =
-      inr (log_with told.log now, subst (λ (first : Told Store). Ends (reference_over options rules first.world.tables bytes) (log_with first.log written) end (log_with told.log now)) is.1 is.2.run)
+  taken : (opening : Option Tables) (before : Option (Told Store)) (end : Status) (now : Option (List ℕ)) → IsTakenRun options rules targets.Memory opening (Some bytes) (Some written) before end now (Some told) → Reached end
+  taken opening before end None is = absurd is
+  taken opening before end (Some now) is =
+      inr (log_with told.log now, subst (λ (first : Told Store). Ends (reference_over options rules first.world.tables bytes) (log_with first.log written) end (log_with told.log now)) is.1 is.3.run)
 
-  reached : (target : Target) (old : Seen) (end : Status) (new : Seen) (attached : Bool) → target ≡ targets.Memory → old.left ≡ Some bytes → old.written ≡ Some written → new.keeper.told ≡ Some told
-      → IsReferenceWhere attached options rules target old end new → Reached end
-  reached target old end new false memory left wrote tells is = inl is.3
-  reached target old end new true memory left wrote tells is =
-      taken old.keeper.told end new.written
-      (subst (λ (t : Target). IsTakenRun options rules t (Some bytes) (Some written) old.keeper.told end new.written (Some told)) memory
-      (subst (λ (now : Option (Told Store)). IsTakenRun options rules target (Some bytes) (Some written) old.keeper.told end new.written now) tells
-      (subst (λ (before : Option (List ℕ)). IsTakenRun options rules target (Some bytes) before old.keeper.told end new.written new.keeper.told) wrote
-      (subst (λ (from : Option (List ℕ)). IsTakenRun options rules target from old.written old.keeper.told end new.written new.keeper.told) left is))))
+  reached : (target : Target) (opening : Option Tables) (old : Seen) (end : Status) (new : Seen) (attached : Bool) → target ≡ targets.Memory → old.left ≡ Some bytes → old.written ≡ Some written → new.keeper.told ≡ Some told
+      → IsReferenceWhere attached options rules target opening old end new → Reached end
+  reached target opening old end new false memory left wrote tells is = inl is.3
+  reached target opening old end new true memory left wrote tells is =
+      taken opening old.keeper.told end new.written
+      (subst (λ (t : Target). IsTakenRun options rules t opening (Some bytes) (Some written) old.keeper.told end new.written (Some told)) memory
+      (subst (λ (now : Option (Told Store)). IsTakenRun options rules target opening (Some bytes) (Some written) old.keeper.told end new.written now) tells
+      (subst (λ (before : Option (List ℕ)). IsTakenRun options rules target opening (Some bytes) before old.keeper.told end new.written new.keeper.told) wrote
+      (subst (λ (from : Option (List ℕ)). IsTakenRun options rules target opening from old.written old.keeper.told end new.written new.keeper.told) left is))))
 
   ended : (lines_of bytes).too_long ≡ false → (end : Status) (attached : Bool) (old new : Faults) → IsFaultless old new → ShowsFaults end attached old new → Reached end → (end ≡ status.Memory) ⊎ (end ≡ done_status (reference options rules bytes).after.own.desk.refused)
   ended short status.Done attached old new faultless shows (inr ends) = inr (ap done_status (sym ends.1.1))
@@ -90,11 +91,11 @@ module _ (options : PrintOptions) (rules : Rules) (bytes written : List ℕ) (to
   ended short status.TooLong attached old new faultless shows (inl (inl is)) = absurd cc
   ended short status.TooLong attached old new faultless shows (inl (inr is)) = absurd cc
 
-pub run_ends : (options : Options) (rules : Rules) (old : Seen) (end : Status) (new : Seen) → options.target ≡ targets.Memory → IsRun options rules old end new → ShowsFaults end new.keeper.attached (faults_of old) (faults_of new)
-    → EndsAsItsLinesAnswer (print_options options) rules old end new
-run_ends options rules old end new memory (inl none) shows bytes written told left wrote tells short faultless = inl none.0
-run_ends options rules old end new memory (inr is) shows bytes written told left wrote tells short faultless =
+pub run_ends : (options : Options) (rules : Rules) (opening : Target → Option Tables) (old : Seen) (end : Status) (new : Seen) → options.target ≡ targets.Memory → IsRun options rules opening old end new
+    → ShowsFaults end new.keeper.attached (faults_of old) (faults_of new) → EndsAsItsLinesAnswer (print_options options) rules old end new
+run_ends options rules opening old end new memory (inl none) shows bytes written told left wrote tells short faultless = inl none.0
+run_ends options rules opening old end new memory (inr is) shows bytes written told left wrote tells short faultless =
     let print : PrintOptions = print_options options in
     ⊎_elim inl (λ is. inr (is ∙ ap done_status (script_counts print rules bytes short)))
     (ended print rules bytes written told short end new.keeper.attached (faults_of old) (faults_of new) faultless shows
-    (reached print rules bytes written told options.target old end new new.keeper.attached memory left wrote tells is))
+    (reached print rules bytes written told options.target (opening options.target) old end new new.keeper.attached memory left wrote tells is))

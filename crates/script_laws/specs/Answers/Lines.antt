@@ -9,6 +9,7 @@ use Rattle.script_read.specs.Line.{line as read_as}
 use Rattle.script_types.specs.declared.command.Command.{Command}
 use Rattle.script_types.specs.declared.command.Command.TheVariants.{BeginNested, Commit, Flush}
 use Rattle.script_types.specs.declared.command.Inside.TheVariants.{Top}
+use Rattle.session_acts.specs.Flush.{prepared_of}
 use Rattle.session_acts.specs.Steps.{orphan_fault}
 use Rattle.session_scopes.specs.SessionState.{SessionState}
 use Rattle.shell_lines.specs.Desk.{DeskState, next_line}
@@ -40,7 +41,7 @@ WordsAreRead = (desk : DeskState) → desk.block ≡ None → ReadsAs desk (code
 pub record CanBeWritten (own : SessionState) (store : Store) (after : Tables) : Type 0 where
   pub well : own.failed ≡ false
   pub no_orphan : orphan_fault own ≡ None
-  pub links : DeletedHaveNoOtherLinks own.mapping own.graph store.tables
+  pub links : DeletedHaveNoOtherLinks own.mapping own.graph (prepared_of own.graph) store.tables
   pub writable : IsWritable own.mapping own.graph store.tables after
 
 -- there is a session, and what its objects state can be written

@@ -216,7 +216,7 @@ whole_built v fit none =
 fit_inside : FitPlansAreSendable → ChangesFit → (v : World) → IsToldSession v → IsSound v → AreFit (changes_of v.own) v
 fit_inside sendable fits v holds sound statements planned =
     let prepared : Prepared = prepared_of v.own.graph in
-    let own = own_rows v.own.mapping v.own.graph prepared v.store.tables (stand v holds sound) holds.once in
+    let own = own_rows v.own.mapping v.own.graph prepared v.store.tables (stand v holds sound) in
     sendable_then v.own.mapping.schema (changes_of v.own) statements (before v.store.tables)
     (sendable v.own.mapping.schema (changes_of v.own) statements v.store.tables
     (fits v.own.mapping v.own.graph prepared holds.well (hierarchies v.own.mapping holds.well) own.fit sound.graph own.keyed) planned)

@@ -55,7 +55,7 @@ told_leave sends leaves own w told sound is =
       leaves w order.0
           (record {
             mapped = told.well;
-            own = own w.own.mapping w.own.graph (prepared_of w.own.graph) w.store.tables (stand w told sound) told.once;
+            own = own w.own.mapping w.own.graph (prepared_of w.own.graph) w.store.tables (stand w told sound);
             sorted = ascending_sorted w.store.tables told.ascending.tables;
             legal = sound.legal;
             ordered = order.1;

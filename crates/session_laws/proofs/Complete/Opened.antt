@@ -3,7 +3,7 @@ use Rattle.std.proofs.Common.{◌≡◌, true, false, ◌==◌, List, [], sym, a
 use Rattle.std.specs.List.{AllByRecursion, flat_map}
 use Rattle.base_core.specs.declared.ids.ObjId.{ObjId}
 use Rattle.schema_core.specs.Declaration.{some_two}
-use Rattle.schema_core.specs.Tables.{Tables}
+use Rattle.schema_core.specs.Tables.{Legal, Tables}
 use Rattle.class_mapping.specs.Mapped.{Mapped}
 use Rattle.class_mapping.specs.Related.{AreRelated}
 use Rattle.mapping_laws.specs.Hierarchies.{HasHierarchies}
@@ -13,7 +13,13 @@ use Rattle.object_arena.specs.Graph.{Graph, IsObject, is_persistent, object_at}
 use Rattle.object_arena.specs.Identity.{IsGraph}
 use Rattle.object_rows.specs.declared.prepared.Prepared.{Prepared}
 use Rattle.object_rows.specs.Rows as rows
+use Rattle.pair_rows.specs.Pairs.{lost_rows}
+use Rattle.row_partners.specs.Partners.{partners}
+use Rattle.row_project.specs.Changes.{object_changes}
+use Rattle.row_switches.proofs.Each.{all_append}
+use Rattle.row_switches.proofs.RowsAfter.{all_left}
 use Rattle.session_laws.specs.Graphs.{IsAsRead, IsTold}
+use Rattle.session_laws.proofs.Graphs.PairsRead.{pairs_read}
 use Rattle.session_laws.proofs.Held.Ascending.{ascending_sorted}
 use Rattle.session_laws.specs.SoundFlushes.{IsToldSession}
 use Rattle.session_laws.proofs.SoundFlushes.Told.{stand}
@@ -24,7 +30,7 @@ use Rattle.session_acts.specs.Flush.{prepared_of}
 use Rattle.session_laws.specs.Sound.{IsSound}
 use Rattle.session_laws.proofs.Sound.Beginning.{entered_mapping}
 use Rattle.session_laws.proofs.Health.Acts.{IsInside, enter_led, once_begun, told}
-use Rattle.session_laws.proofs.OwnRows.PairsOnce.{unmarked_once}
+use Rattle.session_laws.proofs.OwnRows.PairsOnce.{pairs_once}
 use Rattle.session_laws.proofs.OwnRows.Standing.{hierarchies, own_rows, pairs_unmapped}
 use Rattle.session_laws.proofs.Sendable.Roots.{alone}
 use Rattle.session_laws.specs.Complete.{DeletedHaveNoOtherLinks, HoldsLinks, LinksMayBeWritten, MayBeWritten}
@@ -34,9 +40,9 @@ use Rattle.session_laws.proofs.Complete.Written.{IsReady}
 
 -- ---- nothing is to be deleted
 
-unmarked_told : (mapped : Mapped) (graph : Graph) (old : Tables) → HasHierarchies mapped → IsFit mapped graph → IsGraph graph.objects graph.roots → AreRelated mapped → (prepared : Prepared) → prepared.deleted ≡ [] → IsTold mapped graph prepared old
+unmarked_told : (mapped : Mapped) (graph : Graph) (old : Tables) → HasHierarchies mapped → IsFit mapped graph → IsGraph graph.objects graph.roots → AreRelated mapped → Legal mapped.schema old → (prepared : Prepared) → prepared.deleted ≡ [] → IsTold mapped graph prepared old
 unfolding rows.gone_rows
-unmarked_told mapped graph old has fit is related prepared none = record {
+unmarked_told mapped graph old has fit is related legal prepared none = record {
   fit = fit;
   keyed = record {
     made = subst (AllByRecursion (IsObject graph)) (sym none) tt;
@@ -44,14 +50,17 @@ unmarked_told mapped graph old has fit is related prepared none = record {
     once = ap (some_two (λ (one other : ObjId). one.0 == other.0)) none;
     alone = alone mapped has graph fit is;
     read = λ object table among inside. absurd (let e : false ≡ true = sym (ap (λ (objects : List ObjId). graphs.is_among objects object) none) ∙ among in cc);
-    pairs = unmarked_once mapped has related graph prepared fit is none;
+    pairs = pairs_once mapped graph prepared;
     secondary = pairs_unmapped mapped graph prepared related fit;
   };
-  read = subst (λ (objects : List ObjId). AllByRecursion (IsAsRead mapped.schema old) (flat_map (rows.rows_gone mapped graph) objects)) (sym none) tt;
+  read =
+      all_left (IsAsRead mapped.schema old) (object_changes mapped graph prepared) (partners mapped.schema (object_changes mapped graph prepared))
+      (all_append (IsAsRead mapped.schema old) (rows.gone_rows mapped graph prepared) (lost_rows mapped graph prepared)
+      (subst (λ (objects : List ObjId). AllByRecursion (IsAsRead mapped.schema old) (flat_map (rows.rows_gone mapped graph) objects)) (sym none) tt) (pairs_read mapped graph prepared related fit old legal));
 }
 
 pub links_told : (w : World) → HoldsLinks w → IsTold w.own.mapping w.own.graph (prepared_of w.own.graph) w.store.tables
-links_told w holds = unmarked_told w.own.mapping w.own.graph w.store.tables holds.hierarchies holds.fit holds.sound.graph holds.mapped.related (prepared_of w.own.graph) (none_deleted w.own.graph holds.unmarked)
+links_told w holds = unmarked_told w.own.mapping w.own.graph w.store.tables holds.hierarchies holds.fit holds.sound.graph holds.mapped.related holds.sound.legal (prepared_of w.own.graph) (none_deleted w.own.graph holds.unmarked)
 
 links_ready : (w : World) → HoldsLinks w → IsReady w.own.mapping w.own.graph w.store.tables
 links_ready w holds = record {
@@ -68,11 +77,11 @@ links_opened w after may = record { well = may.well; no_orphan = may.no_orphan; 
 
 -- ---- with objects that are to be deleted
 
-told_ready : (w : World) → IsToldSession w → IsSound w → DeletedHaveNoOtherLinks w.own.mapping w.own.graph w.store.tables → IsReady w.own.mapping w.own.graph w.store.tables
+told_ready : (w : World) → IsToldSession w → IsSound w → DeletedHaveNoOtherLinks w.own.mapping w.own.graph (prepared_of w.own.graph) w.store.tables → IsReady w.own.mapping w.own.graph w.store.tables
 told_ready w told sound links =
     let prepared : Prepared = prepared_of w.own.graph in
     let stands = stand w told sound in
-    let own = own_rows w.own.mapping w.own.graph prepared w.store.tables stands told.once in
+    let own = own_rows w.own.mapping w.own.graph prepared w.store.tables stands in
     record {
       well = told.well;
       hierarchies = hierarchies w.own.mapping told.well;
@@ -90,6 +99,6 @@ healthy_opened w after may =
     record {
       well = may.well;
       no_orphan = may.no_orphan;
-      ready = told_ready v (told v.own.mapping v inside) inside.healthy.sound (once_begun DeletedHaveNoOtherLinks w may.links);
+      ready = told_ready v (told v.own.mapping v inside) inside.healthy.sound (once_begun (λ mapped graph tables. DeletedHaveNoOtherLinks mapped graph (prepared_of graph) tables) w may.links);
       writable = may.writable;
     }

@@ -1,8 +1,8 @@
 -- The rows of objects that are to be deleted stand with the foreign keys that were read or written last.
-use Rattle.std.proofs.Common.{◌≡◌, inl, inr, ℕ, zero, suc, ◌+◌, ◌<◌, Bool, true, false, cond, not, ◌&&◌, ◌||◌, ◌==◌, if◌then◌else◌, List, [], ◌∷◌, length, map, filter, get_or, Option, None, Some, refl, sym, ap, ◌∙◌, subst, arith}
+use Rattle.std.proofs.Common.{◌≡◌, ◌⊎◌, inl, inr, ℕ, zero, suc, ◌+◌, ◌<◌, Bool, true, false, cond, not, ◌&&◌, ◌||◌, ◌==◌, if◌then◌else◌, List, [], ◌∷◌, length, map, filter, get_or, Option, None, Some, refl, sym, ap, ◌∙◌, subst, arith}
 use Rattle.std.specs.Prelude.{slice_get}
 use Rattle.std.specs.Cmp.Lexicographic.{as_long}
-use Rattle.std.specs.List.{AllByRecursion, enumerate_from, list_any, position}
+use Rattle.std.specs.List.{AllByRecursion, enumerate_from, flat_map, list_any, position}
 use Rattle.std.specs.Option.{option_and_then}
 use Rattle.std.proofs.lemmas.Bool.{and_parts, eq-eqb, eqb-true}
 use Rattle.std.proofs.lemmas.List.{get_or-map, length-map}
@@ -14,6 +14,8 @@ use Rattle.base_core.specs.declared.ids.ObjId.{ObjId}
 use Rattle.base_core.specs.declared.ids.TableId.{TableId}
 use Rattle.base_core.specs.declared.value.Value.{Value}
 use Rattle.base_core.specs.declared.value.Value.TheVariants.{Null}
+use Rattle.schema_core.specs.declared.changes.GoneRow.{GoneRow}
+use Rattle.schema_core.specs.declared.changes.RowChanges.{RowChanges}
 use Rattle.schema_core.specs.declared.table.ColumnSpec.{ColumnSpec}
 use Rattle.schema_core.specs.declared.table.ForeignSpec.{ForeignSpec}
 use Rattle.schema_core.specs.Catalog.{has_name, same_name, spec_of}
@@ -24,7 +26,7 @@ use Rattle.class_types.specs.declared.mapped.Attribute.{Attribute}
 use Rattle.class_mapping.specs.Mapped.{Mapped, attributes_of, line_of, no_attribute, tables_of}
 use Rattle.class_layouts.specs.declared.classes.Classes.{Classes}
 use Rattle.class_layouts.specs.Columns.{attribute_at, is_attribute, is_shown, table_attributes}
-use Rattle.class_mapping.proofs.Having.{Has, all_from, any_has, from_flat, from_map, has_filter, has_flat, has_map, has_numbered}
+use Rattle.class_mapping.proofs.Having.{Has, all_from, any_has, from_flat, from_map, has_either, has_filter, has_flat, has_map, has_numbered}
 use Rattle.object_arena.proofs.FitLemmas.{fit_cells}
 use Rattle.session_laws.proofs.Projects.Loose.{has_place}
 use Rattle.session_laws.proofs.Graphs.MappingFacts.{once_law}
@@ -40,13 +42,19 @@ use Rattle.flush_plan.specs.Stating.{row_at}
 use Rattle.object_rows.specs.declared.prepared.Prepared.{Prepared}
 use Rattle.object_rows.specs.Cells.{key_value}
 use Rattle.object_rows.specs.Rows.{cell_for, columns_at, gone_cell, gone_row, gone_rows, is_at, is_joined, key_part, rows_gone, value_before}
+use Rattle.pair_rows.specs.Pairs.{lost_rows}
+use Rattle.row_partners.specs.Partners.{partners}
+use Rattle.row_project.specs.Changes.{object_changes, project}
+use Rattle.row_switches.proofs.RowsAfter.{all_left}
 use Rattle.session_laws.proofs.Plans.Between.{legal_cells, legal_key}
+use Rattle.session_laws.proofs.Graphs.PairsRead.{pairs_read}
+use Rattle.session_laws.proofs.Projects.LateKeys.{each_has}
 use Rattle.session_laws.proofs.Plans.Facts.{some_of}
 use Rattle.session_laws.specs.Graphs.{AreKeyed, IsAsRead, key_held}
 use Rattle.session_laws.specs.Held.{column_in, held_in}
 use Rattle.session_laws.specs.OwnRows.{StandInTables}
 use Rattle.session_laws.proofs.OwnRows.Standing.{IsToGo, to_go}
-use Rattle.session_laws.specs.Complete.{DeletedHaveNoOtherLinks}
+use Rattle.session_laws.specs.Complete.{DeletedHaveNoOtherLinks, StandsWithoutOtherLinks}
 
 -- ---- cells of rows
 
@@ -90,9 +98,9 @@ each_named f g (name ∷ names) each = λ i. each name (inl refl) i ∷ each_nam
 
 -- ---- the rows of an object
 
-module _ (mapped : Mapped) (graph : Graph) (prepared : Prepared) (old : Tables) (stand : StandInTables mapped graph prepared old) (own : AreKeyed mapped graph prepared) (free : DeletedHaveNoOtherLinks mapped graph old) where
+module _ (mapped : Mapped) (graph : Graph) (prepared : Prepared) (old : Tables) (stand : StandInTables mapped graph prepared old) (own : AreKeyed mapped graph prepared) (free : DeletedHaveNoOtherLinks mapped graph prepared old) where
   module _ (object : ObjId) (go : IsToGo mapped graph prepared old stand object) (table : TableId) (listed : Has (tables_of mapped (object_at graph object).class) table) (inside : is_among (tables_of mapped (object_at graph object).class) table ≡ true) (among : graphs.is_among prepared.deleted object ≡ true)
-      (stands : List Value) (at : row_at old (table, key_held graph object) ≡ Some stands) where
+      (there : Has (project mapped graph prepared).gone (gone_row mapped graph object table)) (stands : List Value) (at : row_at old (table, key_held graph object) ≡ Some stands) where
     abbrev it : Object
     it = object_at graph object
 
@@ -150,7 +158,7 @@ module _ (mapped : Mapped) (graph : Graph) (prepared : Prepared) (old : Tables) 
         let its_column : attribute.column.0 ≡ c = eqb-true attribute.column.0 c passes.1 in
         let less : n < length it.cells = slice_get_within it.cells n cell is in
         let its_cell : get_or it.cells n expired_cell ≡ cell = get_or_from_slice_get it.cells n cell expired_cell is in
-        let known = some_of (get_or it.cells n expired_cell).base (stand.known (place_of object) within go.marked (record { 0 = n }) less) in
+        let known = some_of (get_or it.cells n expired_cell).base (go.known (record { 0 = n }) less) in
         let held : held_in old attribute it.identity ≡ Some known.0 = stand.holds (place_of object) within go.persists (record { 0 = n }) known.0 less known.1 in
         let there : slice_get stands c ≡ Some known.0 =
         sym (ap (λ (row : Option (List Value)). column_in row c) at)
@@ -194,7 +202,9 @@ module _ (mapped : Mapped) (graph : Graph) (prepared : Prepared) (old : Tables) 
 
     free_cell : (c : ℕ) (column : ColumnSpec) (cell : Option Cell) → cell_for mapped (object_at graph object) table c ≡ cell → slice_get columns c ≡ Some column → column.key ≡ false
         → list_any (λ (foreign : ForeignSpec). has_name foreign.columns column.name) (spec_of mapped.schema table).foreigns ≡ true → get_or stands c Null ≡ value_before cell
-    free_cell c column None e here unkeyed foreign = free (place_of object) table stands within go.persists go.marked inside at c column here (unshown c column e here unkeyed) foreign
+    free_cell c column None e here unkeyed foreign =
+        each_has (StandsWithoutOtherLinks mapped graph old) (project mapped graph prepared).gone (gone_row mapped graph object table) free there stands inside
+        (ap (λ (key : List Value). row_at old (table, key)) (own.read object table among inside) ∙ at) c column here (unshown c column e here unkeyed) foreign
     free_cell c column (Some cell) e here unkeyed foreign = of_attribute c (position (is_at table c) (attributes_of mapped it.class)) cell refl e
 
     same_cell : (c : ℕ) (column : ColumnSpec) → slice_get columns c ≡ Some column → list_any (λ (foreign : ForeignSpec). has_name foreign.columns column.name) (spec_of mapped.schema table).foreigns ≡ true → get_or stands c Null ≡ get_or base c Null
@@ -213,20 +223,28 @@ module _ (mapped : Mapped) (graph : Graph) (prepared : Prepared) (old : Tables) 
         any_has (λ (other : List ℕ). same_name other column.name) foreign.columns name has (ap (same_name name) (same_names column.name name named) ∙ name_itself name) in
         same_cell c column here (any_has (λ (f : ForeignSpec). has_name f.columns column.name) (spec_of mapped.schema table).foreigns foreign among_foreigns names)))
 
-  row_read : (object : ObjId) → Has prepared.deleted object → (table : TableId) → Has (tables_of mapped (object_at graph object).class) table → IsAsRead mapped.schema old (gone_row mapped graph object table)
-  row_read object has table listed stands at =
+  row_read : (object : ObjId) → Has prepared.deleted object → (table : TableId) → Has (tables_of mapped (object_at graph object).class) table → Has (project mapped graph prepared).gone (gone_row mapped graph object table)
+      → IsAsRead mapped.schema old (gone_row mapped graph object table)
+  row_read object has table listed left stands at =
       let among : graphs.is_among prepared.deleted object ≡ true = any_has (λ (other : ObjId). other.0 == object.0) prepared.deleted object has (eq-eqb object.0 object.0 refl) in
       let inside : is_among (tables_of mapped (object_at graph object).class) table ≡ true = any_has (λ (other : TableId). other.0 == table.0) (tables_of mapped (object_at graph object).class) table listed (eq-eqb table.0 table.0 refl) in
-      let there : row_at old (table, key_held graph object) ≡ Some stands = ap (λ (key : List Value). row_at old (table, key)) (sym (own.read object table among inside)) ∙ at in
+      let stood : row_at old (table, key_held graph object) ≡ Some stands = ap (λ (key : List Value). row_at old (table, key)) (sym (own.read object table among inside)) ∙ at in
       all_from (λ (foreign : ForeignSpec). cells_of (spec_of mapped.schema table) stands foreign.columns ≡ cells_of (spec_of mapped.schema table) (gone_row mapped graph object table).base foreign.columns) (spec_of mapped.schema table).foreigns
-      (foreign_same object (to_go mapped graph prepared old stand object has) table listed inside among stands there)
+      (foreign_same object (to_go mapped graph prepared old stand object has) table listed inside among left stands stood)
 
-  -- each stands with the foreign keys that were read or written last
-  pub all_read : AllByRecursion (IsAsRead mapped.schema old) (gone_rows mapped graph prepared)
+  -- each row that is deleted stands with the foreign keys that were read or written last
+  pub all_read : AllByRecursion (IsAsRead mapped.schema old) (project mapped graph prepared).gone
   unfolding gone_rows
   all_read =
-      all_from (IsAsRead mapped.schema old) (gone_rows mapped graph prepared)
-      (λ row has.
-      let of = from_flat (rows_gone mapped graph) prepared.deleted row has in
-      let made = from_map (gone_row mapped graph of.0) (tables_of mapped (object_at graph of.0).class) row of.2 in
-      subst (IsAsRead mapped.schema old) made.2 (row_read of.0 of.1 made.0 made.1))
+      let plain : RowChanges = object_changes mapped graph prepared in
+      all_from (IsAsRead mapped.schema old) (project mapped graph prepared).gone
+      (λ row has. by row has
+      (has_either (gone_rows mapped graph prepared) (lost_rows mapped graph prepared) row
+      (each_has (Has plain.gone) (project mapped graph prepared).gone row (all_left (Has plain.gone) plain (partners mapped.schema plain) (all_from (Has plain.gone) plain.gone (λ other there. there))) has)))
+    where
+      by : (row : GoneRow) → Has (project mapped graph prepared).gone row → Has (flat_map (rows_gone mapped graph) prepared.deleted) row ⊎ Has (lost_rows mapped graph prepared) row → IsAsRead mapped.schema old row
+      by row has (inl object) =
+          let of = from_flat (rows_gone mapped graph) prepared.deleted row object in
+          let made = from_map (gone_row mapped graph of.0) (tables_of mapped (object_at graph of.0).class) row of.2 in
+          subst (IsAsRead mapped.schema old) made.2 (row_read of.0 of.1 made.0 made.1 (subst (Has (project mapped graph prepared).gone) (sym made.2) has))
+      by row has (inr pair) = each_has (IsAsRead mapped.schema old) (lost_rows mapped graph prepared) row (pairs_read mapped graph prepared stand.well.related stand.fit old stand.legal) pair

@@ -1,5 +1,5 @@
 -- The row of a pair is all key, so what stands under its key is the row that was read.
-use Rattle.std.proofs.Common.{◌≡◌, ℕ, Bool, true, false, cond, ◌&&◌, ◌==◌, List, [], ◌∷◌, ◌++◌, length, fold, Option, None, Some, is_some, refl, sym, subst, ap, ◌∙◌}
+use Rattle.std.proofs.Common.{◌≡◌, ℕ, Bool, true, false, cond, ◌&&◌, ◌==◌, List, [], ◌∷◌, ◌++◌, length, fold, map, Option, None, Some, is_some, refl, sym, subst, ap, ◌∙◌}
 use Rattle.std.proofs.lemmas.List.{length-map, map-append}
 use Rattle.std.proofs.lemmas.List.Elements.{All-nil, recursion_from_All}
 use Rattle.std.proofs.lemmas.Map.Views.{All-insert_key}
@@ -30,6 +30,7 @@ use Rattle.object_rows.specs.declared.prepared.Prepared.{Prepared}
 use Rattle.object_rows.specs.Seen.{link_of, object_ids}
 use Rattle.object_rows.proofs.ObjectSteps.{all_made}
 use Rattle.pair_rows.specs.Pairs as pairs
+use Rattle.pair_rows.proofs.FirstLemmas.{firsts_all}
 use Rattle.row_switches.proofs.Each.{all_given, all_map}
 use Rattle.session_laws.proofs.Plans.Between.{legal_cells, legal_key}
 use Rattle.session_laws.proofs.Plans.Blend.{Long, legal_is_long}
@@ -148,6 +149,7 @@ module _ (mapped : Mapped) (graph : Graph) (prepared : Prepared) (related : AreR
   pub pairs_read : (old : Tables) → Legal mapped.schema old → AllByRecursion (IsAsRead mapped.schema old) (pairs.lost_rows mapped graph prepared)
   unfolding pairs.lost_rows
   pairs_read old legal =
-      all_map (IsParted mapped graph prepared) (IsAsRead mapped.schema old) (pairs.lost_row mapped graph)
+      firsts_all (IsAsRead mapped.schema old) mapped.schema (map (pairs.lost_row mapped graph) (pairs.lost_pairs mapped graph prepared))
+      (all_map (IsParted mapped graph prepared) (IsAsRead mapped.schema old) (pairs.lost_row mapped graph)
       (λ pair it. key_as_read mapped.schema old (pairs.lost_row mapped graph pair) legal (lost_keyed pair it) (length-map (columns_in mapped.schema.tables pair.0) (λ column. given_value (pairs.pair_cell mapped graph [] pair column))))
-      (pairs.lost_pairs mapped graph prepared) (lost_parted mapped graph prepared)
+      (pairs.lost_pairs mapped graph prepared) (lost_parted mapped graph prepared))

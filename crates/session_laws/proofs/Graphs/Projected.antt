@@ -12,13 +12,8 @@ use Rattle.flush_order.specs.Cells.{is_late}
 use Rattle.flush_order.specs.Orders.{place_of_gone}
 use Rattle.flush_plan.specs.Stating.{blend, row_at}
 use Rattle.object_rows.specs.declared.prepared.Prepared.{Prepared}
-use Rattle.object_rows.specs.Rows.{gone_rows}
-use Rattle.pair_rows.specs.Pairs.{lost_rows}
 use Rattle.row_project.specs.Changes.{object_changes, project}
-use Rattle.row_partners.specs.Partners.{partners}
-use Rattle.row_switches.proofs.Each.{all_append}
 use Rattle.row_project.proofs.Range.{project_declared}
-use Rattle.row_switches.proofs.RowsAfter.{all_left}
 use Rattle.session_laws.specs.Projects.{IsWholeBase}
 use Rattle.session_laws.proofs.Projects.Apart.{switches_keep_apart}
 use Rattle.session_laws.proofs.Projects.LateKeys.{each_has, late_keys_fit, taken}
@@ -29,7 +24,6 @@ use Rattle.session_laws.proofs.Graphs.AsRead.{late_as_read}
 use Rattle.session_laws.proofs.Graphs.MappingFacts.{once_law}
 use Rattle.session_laws.proofs.Graphs.NewKinds.{foreigns_of_one_kind}
 use Rattle.session_laws.proofs.Graphs.ObjectsApart.{rows_apart}
-use Rattle.session_laws.proofs.Graphs.PairsRead.{pairs_read}
 
 -- what is written late of a deleted row is what stands
 late_read : (mapped : Mapped) (graph : Graph) (prepared : Prepared) (old : Tables) → IsWellMapped mapped → IsTold mapped graph prepared old → Legal mapped.schema old → AllByRecursion (IsAsRead mapped.schema old) (project mapped graph prepared).gone
@@ -60,10 +54,4 @@ all_projected mapped graph prepared well own =
     }
 
 pub all_read : DeletedAreAsRead
-all_read mapped graph prepared old well told legal =
-    let schema = mapped.schema in
-    let plain = object_changes mapped graph prepared in
-    let read : AllByRecursion (IsAsRead schema old) (project mapped graph prepared).gone =
-    all_left (IsAsRead schema old) plain (partners schema plain)
-    (all_append (IsAsRead schema old) (gone_rows mapped graph prepared) (lost_rows mapped graph prepared) told.read (pairs_read mapped graph prepared well.related told.fit old legal)) in
-    record { base = read; late = late_read mapped graph prepared old well told legal read }
+all_read mapped graph prepared old well told legal = record { base = told.read; late = late_read mapped graph prepared old well told legal told.read }

@@ -1,15 +1,11 @@
 -- Calls that flush keep a healthy session healthy, whatever they answer.
-use Rattle.std.proofs.Common.{◌≡◌, ℕ, ◌+◌, ◌-◌, ◌<◌, Bool, true, false, ◌==◌, List, [], ◌∷◌, filter, get_or, length, Option, None, Some, Result, Ok, Err, refl, sym, ap, ◌∙◌, subst, arith}
+use Rattle.std.proofs.Common.{◌≡◌, ℕ, ◌+◌, ◌-◌, ◌<◌, Bool, true, false, ◌==◌, List, [], ◌∷◌, get_or, length, Option, None, Some, Result, Ok, Err, refl, sym, ap, ◌∙◌, subst, arith}
 use Rattle.std.specs.Prelude.{is_none}
-use Rattle.std.proofs.lemmas.Bool.{and_parts, eqb-true}
-use Rattle.std.proofs.lemmas.List.Elements.{recursion_from_All}
 use Rattle.std.proofs.lemmas.List.Quantifiers.{position-Some}
-use Rattle.base_core.specs.declared.ids.ObjId.{ObjId}
 use Rattle.base_core.specs.declared.refusal.Refusal.{Refusal}
 use Rattle.base_core.specs.declared.refusal.Refusal.TheVariants.{InvalidRequestError, PendingRollbackError, ResourceClosedError}
 use Rattle.base_core.specs.declared.refusal.RequestKind.TheVariants.{KeyChange}
 use Rattle.class_mapping.specs.Mapped.{Mapped}
-use Rattle.class_mapping.proofs.Having.{from_filter, some_of}
 use Rattle.schema_core.specs.Tables.{Tables}
 use Rattle.expr_types.specs.declared.select.Bulk.{Bulk}
 use Rattle.expr_types.specs.declared.select.Select.{Select}
@@ -18,11 +14,8 @@ use Rattle.object_arena.specs.declared.object.Object.{Object}
 use Rattle.object_arena.specs.declared.object.State.{State}
 use Rattle.object_arena.specs.declared.object.State.TheVariants.{Transient, Pending, Persistent, Deleted, Detached}
 use Rattle.object_arena.specs.Fit.{IsFit}
-use Rattle.object_arena.specs.Graph.{Graph, IsObject, either_fault, is_persistent, no_object, object_at, place_of}
+use Rattle.object_arena.specs.Graph.{Graph, either_fault, is_persistent, no_object}
 use Rattle.object_arena.specs.Identity.{is_identified}
-use Rattle.object_rows.specs.Seen.{object_ids}
-use Rattle.object_rows.proofs.ObjectSteps.{all_made}
-use Rattle.session_laws.proofs.Projects.LateKeys.{each_has}
 use Rattle.keeper_core.specs.Programs.{Event, Run, ◌>>=◌, continue_from, give, refuse}
 use Rattle.keeper_core.specs.Beside.{by_own, changes, on_store}
 use Rattle.savepoints.specs.declared.scope.Scope.{Scope}
@@ -36,7 +29,7 @@ use Rattle.session_calls.specs.Steps.{begin_unless, enter, pending_fault}
 use Rattle.session_calls.proofs.Acting.{no_scope_open}
 use Rattle.session_acts.specs.Savepoints.{begin_savepoint, check_handle, commit_whole, enter_nested, handle_fault, limit_fault, release_handle}
 use Rattle.session_statements.specs.Steps as statements
-use Rattle.session_acts.specs.Flush.{flush, is_to_delete, prepared_of}
+use Rattle.session_acts.specs.Flush.{flush, prepared_of}
 use Rattle.session_acts.specs.Outcome.{changes_of}
 use Rattle.session_laws.proofs.Flushes.Flushing.{IsFlushSent, flush_sent}
 use Rattle.session_acts.specs.Steps as acts
@@ -48,8 +41,6 @@ use Rattle.session_laws.proofs.Sound.Programs.{checked_none, checked_same}
 use Rattle.session_laws.proofs.Calls.Nesting.{nest_sound}
 use Rattle.session_laws.proofs.Calls.Rereading.{bulk_sound, rows_sound}
 use Rattle.session_laws.proofs.Calls.Whole.{handle_released, whole_sound}
-use Rattle.session_laws.specs.OwnRows.{LeavesUnlinked}
-use Rattle.session_laws.proofs.OwnRows.PairsOnce.{unlinked_once}
 use Rattle.session_laws.specs.SoundFlushes.{IsToldSession, ToldFlushIsSound, ToldFlushKeepsSound}
 use Rattle.session_laws.specs.Health.Health.{HoldsItsKey, IsHealthy, IsWhole, KeepsHealthWhole, is_named}
 use Rattle.session_laws.proofs.Health.Fits.{flushed_fit}
@@ -173,17 +164,6 @@ module _ (mapped : Mapped) (w : World) (it : IsInside mapped w) where
       let named = persists_named (get_or w.own.graph.objects place no_object).state (get_or w.own.graph.objects place no_object) refl persists (it.healthy.sound.graph.identified place no_object less) in
       ((it.healthy.tidy.own.objects place less).keyed, named)
 
-  -- what is to be deleted has no links
-  leave : LeavesUnlinked w.own.graph (prepared_of w.own.graph)
-  leave object among =
-      let graph : Graph = w.own.graph in
-      let some = some_of (λ (other : ObjId). other.0 == object.0) (filter (is_to_delete graph) (object_ids graph)) among in
-      let same : some.0 ≡ object = ap (λ (n : ℕ). let id : ObjId = record { 0 = n } in id) (eqb-true some.0.0 object.0 some.2) in
-      let kept = from_filter (is_to_delete graph) (object_ids graph) some.0 some.1 in
-      let made : IsObject graph object = subst (IsObject graph) same (each_has (IsObject graph) (object_ids graph) some.0 (recursion_from_All (IsObject graph) (object_ids graph) (all_made graph (object_ids graph) refl)) kept.0) in
-      let parts = and_parts (is_persistent (object_at graph object).state) (object_at graph object).marked (ap (is_to_delete graph) (sym same) ∙ kept.1) in
-      (parts.0, (it.healthy.tidy.own.objects (place_of object) (omega (arith, made.0, made.1))).unlinked parts.1)
-
   pub told : IsToldSession w
   told = record {
     inside = it.inside;
@@ -192,7 +172,6 @@ module _ (mapped : Mapped) (w : World) (it : IsInside mapped w) where
     fit = it.fit;
     keyed = λ place less persists. let keyed = keyed_at place less persists in keyed.0 keyed.1;
     known = λ place less. (it.healthy.tidy.own.objects place less).known;
-    once = unlinked_once w.own.mapping w.own.graph (prepared_of w.own.graph) it.healthy.tidy.own.well it.fit it.healthy.sound.graph leave;
   }
 
 -- a flush leaves it sound

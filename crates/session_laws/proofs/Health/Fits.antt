@@ -22,6 +22,7 @@ use Rattle.graph_flushed.proofs.FitSteps.{flushed_fits}
 use Rattle.graph_flushed.proofs.Flushes.Fitting.{flushes_fit}
 use Rattle.session_laws.specs.Graphs.{IsWellMapped}
 use Rattle.session_laws.proofs.OwnRows.Standing.{hierarchies}
+use Rattle.session_acts.proofs.Ready.{none_clearable}
 
 -- ---- the objects keep their classes
 
@@ -62,4 +63,4 @@ same_classes mapped old new same =
 pub flushed_fit : (mapped : Mapped) (graph : Graph) (prepared : Prepared) (rows : RowChanges) (keys : List (List Value)) → IsWellMapped mapped → prepared.cleared ≡ [] → IsFit mapped graph → IsFit mapped (graph_flushed mapped prepared rows keys graph)
 flushed_fit mapped graph prepared rows keys well cleared fit =
     flushed_fits mapped graph (graph_flushed mapped prepared rows keys graph) prepared rows keys (Ok tt) fit refl tt (classes_written (written_with mapped prepared rows keys graph))
-    (flushes_fit mapped graph prepared rows keys (hierarchies mapped well) well.related fit cleared)
+    (flushes_fit mapped graph prepared rows keys (hierarchies mapped well) well.related fit (none_clearable mapped graph prepared cleared))

@@ -159,15 +159,15 @@ flushed_session prepared rows keys own orderly =
     let written : Written = written_with own.mapping prepared rows keys own.graph in
     changed_orderly (graph_flushed own.mapping prepared rows keys own.graph) own (flushed_orderly written orderly.objects) (flushed_named written) orderly
 
-if_orderly : (mapped : Mapped) (is_read : Bool) (o : Object) → o.marked ≡ false → IsOrderly mapped o → IsOrderly mapped (expired_if is_read o)
+pub if_orderly : (mapped : Mapped) (is_read : Bool) (o : Object) → o.marked ≡ false → IsOrderly mapped o → IsOrderly mapped (expired_if is_read o)
 if_orderly mapped true o unmarked orderly = expired_orderly mapped o unmarked
 if_orderly mapped false o unmarked orderly = orderly
 
-if_named : (is_read : Bool) (o : Object) → is_named o.state o.identity ≡ true → is_named (expired_if is_read o).state (expired_if is_read o).identity ≡ true
+pub if_named : (is_read : Bool) (o : Object) → is_named o.state o.identity ≡ true → is_named (expired_if is_read o).state (expired_if is_read o).identity ≡ true
 if_named true o named = named
 if_named false o named = named
 
-if_settled : (is_read : Bool) (o : Object) → IsSettled o → IsSettled (expired_if is_read o)
+pub if_settled : (is_read : Bool) (o : Object) → IsSettled o → IsSettled (expired_if is_read o)
 if_settled true o settled = record { settled = settled.settled; unmarked = settled.unmarked }
 if_settled false o settled = settled
 

@@ -14,7 +14,7 @@ use Rattle.cascades.specs.Closures.{closure_of, has_beside, is_among, sublists}
 use Rattle.class_mapping.specs.Mapped.{Mapped}
 use Rattle.object_arena.specs.declared.object.Object.{Object}
 use Rattle.object_arena.specs.Fit.{IsFit}
-use Rattle.object_arena.specs.Graph.{Graph, IsObject, either_fault, object_at, with_link}
+use Rattle.object_arena.specs.Graph.{Graph, IsObject, object_at, with_link}
 use Rattle.object_arena.specs.Identity.{id_of_place}
 use Rattle.keeper_core.specs.Store.{Store}
 use Rattle.keeper_core.specs.Beside.{changes}
@@ -30,11 +30,11 @@ use Rattle.session_parts.specs.Depths.{has_scope}
 use Rattle.session_scopes.specs.SessionState.{SessionState}
 use Rattle.session_calls.specs.Parts.{World, fault_if}
 use Rattle.session_calls.specs.Steps.{enter}
-use Rattle.session_objects.specs.Conflicts.{conflict_fault, has_conflict}
+use Rattle.session_objects.specs.Conflicts.{has_conflict}
 use Rattle.session_objects.specs.Taking.{AreOnce, coming_objects}
 use Rattle.session_objects.proofs.JoiningLemmas.{come_still, may_come, may_join}
 use Rattle.session_objects.proofs.OutsiderLemmas.{outsiders_once}
-use Rattle.session_links.specs.Linking.{all_with, brings_in, change_fault, coming_along, fault_by, session_by, session_changed, session_linked, session_orphaned, session_put, unread_fault}
+use Rattle.session_links.specs.Linking.{all_with, brings_in, change_fault, coming_along, fault_by, session_by, session_changed, session_linked, session_orphaned, session_put}
 use Rattle.session_links.specs.Relinked.{IsRelinked}
 use Rattle.session_links.specs.Steps.{change_inside, change_link}
 use Rattle.session_links.proofs.Acting.{child_made}
@@ -163,10 +163,6 @@ all_linked child change own store made placed opened sound =
 
 -- ---- the call
 
-first_none : (first second : Option Refusal) → either_fault first second ≡ None → first ≡ None
-first_none None second is = refl
-first_none (Some fault) second is = absurd cc
-
 no_conflict : (b : Bool) (fault : Refusal) → fault_if b fault ≡ None → b ≡ false
 no_conflict true fault is = absurd cc
 no_conflict false fault is = refl
@@ -179,7 +175,7 @@ changed_by_sound owner place call own store (Ok change) is fit made end none ope
     let child : ObjId = child_of owner call in
     let placed : IsPlaced own.graph change = change_placed own.graph own.mapping owner place call change fit made end is in
     let linked = all_linked child change own store (child_made own.graph owner call made end) placed opened sound in
-    let free : has_conflict own.graph objects ≡ false = no_conflict (has_conflict own.graph objects) (InvalidRequestError requests.IdentityConflict) (first_none (conflict_fault own.graph objects) (unread_fault own owner place call) none) in
+    let free : has_conflict own.graph objects ≡ false = no_conflict (has_conflict own.graph objects) (InvalidRequestError requests.IdentityConflict) none in
     let now : SessionState = session_linked child change own in
     (all_joined objects now store
     (may_join objects now

@@ -6,7 +6,7 @@ use Rattle.session_scopes.specs.Loads.{on_load}
 use Rattle.session_scopes.specs.SessionState.{in_transaction}
 use Rattle.session_calls.specs.Parts.{World}
 use Rattle.session_laws.specs.Whole.{IsHale}
-use Rattle.session_laws.specs.Loads.{IsLoadOf, LoadsKeepFit, LoadsKeepHealth, LoadsKeepSound, LoadsKeepWhole, SessionsGoOn, after_load, loading_of}
+use Rattle.session_laws.specs.Loads.{IsRereadOf, LoadsKeepFit, LoadsKeepHealth, LoadsKeepSound, LoadsKeepWhole, SessionsGoOn, after_load, loading_of}
 use Rattle.session_laws.proofs.Loads.Sessions.{loaded_goes_on, loaded_handled, loaded_keyed, loaded_orderly, loaded_sound}
 
 pub sound_law : LoadsKeepSound
@@ -27,7 +27,7 @@ go_on_law own session grows = loaded_goes_on own session grows
 -- ---- programs
 
 -- a whole session has taken a load in
-pub loaded_hale : (own : Loading) (world : World) → in_transaction world.own ≡ true → IsLoadOf world own → IsHale world → IsHale (after_load own world)
+pub loaded_hale : (own : Loading) (world : World) → in_transaction world.own ≡ true → IsRereadOf world own → IsHale world → IsHale (after_load own world)
 loaded_hale own world opened loads hale = record {
   healthy = health_law own world opened loads hale.healthy;
   keyed = loaded_keyed own world.own loads.fit loads.grows hale.keyed;

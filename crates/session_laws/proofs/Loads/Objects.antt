@@ -17,11 +17,12 @@ use Rattle.object_arena.specs.Graph.{Graph, cell_in, expired_cell, has_identity,
 use Rattle.object_arena.specs.Identity.{is_identified}
 use Rattle.load_filling.specs.Loaded.{loaded_object}
 use Rattle.load_rows.specs.Loading.{Loading}
+use Rattle.session_calls.specs.Parts.{World}
 use Rattle.session_laws.specs.Scopes.{object_in}
 use Rattle.session_laws.specs.Sound.{EachObject, IsFresh, IsMarkedRight, in_row, row_for}
 use Rattle.session_laws.specs.Health.Health.{IsOrderly, is_named}
 use Rattle.session_laws.proofs.Health.Objects.{IsEven, unmarked_orderly}
-use Rattle.session_laws.specs.Loads.{IsLoadedFrom, IsMadeFrom, IsReadCell, IsReadFrom, row_value}
+use Rattle.session_laws.specs.Loads.{IsLoadOf, IsLoadedBy, IsMadeBy, IsReadBy, IsReadCell, IsRereadCell, IsRereadOf, row_value}
 
 -- ---- expired cells
 
@@ -49,6 +50,19 @@ base_read : (found : Option Value) (was now : Cell) (base : Value) → IsReadCel
 base_read found was now base (inl same) fresh is = fresh (sym (ap (λ (c : Cell). c.base) same) ∙ is)
 base_read found was now base (inr filled) fresh is = filled.is ∙ (sym (ap (λ (c : Cell). c.base) filled.even) ∙ is)
 
+-- so it is of a cell that is read anew
+even_anew : (found : Option Value) (was now : Cell) → IsRereadCell found was now → IsEven was → IsEven now
+even_anew found was now (inl read) even = even_read found was now read even
+even_anew found was now (inr lost) even = even_read found expired_cell now lost.left refl
+
+known_anew : (found : Option Value) (was now : Cell) → IsRereadCell found was now → is_some was.base ≡ true → is_some now.base ≡ true
+known_anew found was now (inl read) known = known_read found was now read known
+known_anew found was now (inr lost) known = absurd (let never = sym (ap (λ (base : Option Value). is_some base) lost.unknown) ∙ known in cc)
+
+base_anew : (found : Option Value) (was now : Cell) (base : Value) → IsRereadCell found was now → (was.base ≡ Some base → found ≡ Some base) → now.base ≡ Some base → found ≡ Some base
+base_anew found was now base (inl read) fresh is = base_read found was now base read fresh is
+base_anew found was now base (inr lost) fresh is = base_read found expired_cell now base lost.left (λ never. absurd cc) is
+
 -- a persistent object has a key
 persistent_keyed : (state : State) (identity : Option (List Value)) → is_persistent state ≡ true → (if has_identity state then is_some identity else not (is_some identity)) ≡ true → is_some identity ≡ true
 persistent_keyed Transient identity persists identified = absurd cc
@@ -66,13 +80,13 @@ none_long [] is = refl
 none_long (x ∷ xs) is = absurd (omega (arith, is))
 
 module _ (mapped : Mapped) (tables : Tables) where
-  module _ (was now : Object) (read : IsReadFrom mapped tables was now) where
+  module _ (was now : Object) (read : IsReadBy IsRereadCell mapped tables was now) where
     -- past the last cell too
-    cell_read : (attr : AttrNo) → IsReadCell (row_value mapped tables now attr) (cell_in was attr) (cell_in now attr)
+    cell_read : (attr : AttrNo) → IsRereadCell (row_value mapped tables now attr) (cell_in was attr) (cell_in now attr)
     cell_read attr =
         ⊎_elim
         (λ (inside : attr.0 < length now.cells). read.cells attr inside)
-        (λ (past : length now.cells ≤ attr.0). inl (get_or_past now.cells attr.0 expired_cell past ∙ sym (get_or_past was.cells attr.0 expired_cell (omega (arith, past, read.long)))))
+        (λ (past : length now.cells ≤ attr.0). inl (inl (get_or_past now.cells attr.0 expired_cell past ∙ sym (get_or_past was.cells attr.0 expired_cell (omega (arith, past, read.long))))))
         (cases_lt attr.0 (length now.cells))
 
     same_row : (attr : AttrNo) → row_value mapped tables now attr ≡ row_value mapped tables was attr
@@ -85,7 +99,7 @@ module _ (mapped : Mapped) (tables : Tables) where
         let before : is_some was.identity ≡ true = sym (ap (λ (o : Object). is_some o.identity) read.rest) ∙ keyed in
         let inside : attr.0 < length was.cells = omega (arith, less, read.long) in
         under_key tables (attribute_of mapped now.class attr) now.identity keyed
-        ∙ base_read (row_value mapped tables now attr) (cell_in was attr) (cell_in now attr) base (cell_read attr)
+        ∙ base_anew (row_value mapped tables now attr) (cell_in was attr) (cell_in now attr) base (cell_read attr)
         (λ known. same_row attr ∙ sym (under_key tables (attribute_of mapped was.class attr) was.identity before) ∙ fresh persistent attr inside base known) is
 
     pub read_marked : IsMarkedRight was → IsMarkedRight now
@@ -97,11 +111,11 @@ module _ (mapped : Mapped) (tables : Tables) where
     pub read_orderly : IsOrderly mapped was → IsOrderly mapped now
     read_orderly orderly = record {
       keyed = λ named attr key.
-          even_read (row_value mapped tables now attr) (cell_in was attr) (cell_in now attr) (cell_read attr)
+          even_anew (row_value mapped tables now attr) (cell_in was attr) (cell_in now attr) (cell_read attr)
           (orderly.keyed (sym (ap (λ (o : Object). is_named o.state o.identity) read.rest) ∙ named) attr (sym (ap (λ (o : Object). is_key_attribute mapped o.class attr) read.rest) ∙ key));
       known = λ marked attr less.
           let inside : attr.0 < length was.cells = omega (arith, less, read.long) in
-          known_read (row_value mapped tables now attr) (cell_in was attr) (cell_in now attr) (cell_read attr) (orderly.known (sym (ap (λ (o : Object). o.marked) read.rest) ∙ marked) attr inside);
+          known_anew (row_value mapped tables now attr) (cell_in was attr) (cell_in now attr) (cell_read attr) (orderly.known (sym (ap (λ (o : Object). o.marked) read.rest) ∙ marked) attr inside);
       unlinked = λ marked.
           let before : length was.links ≡ 0 = ap length (orderly.unlinked (sym (ap (λ (o : Object). o.marked) read.rest) ∙ marked)) in
           none_long now.links (read.linked ∙ before);
@@ -115,7 +129,7 @@ module _ (mapped : Mapped) (tables : Tables) where
   loaded_orderly : (class : ClassId) (key : List Value) → IsOrderly mapped (loaded_object mapped class key)
   loaded_orderly class key = unmarked_orderly mapped (loaded_object mapped class key) refl (λ named attr is. ap (λ (c : Cell). c.value) (loaded_cell mapped class key attr) ∙ sym (ap (λ (c : Cell). c.base) (loaded_cell mapped class key attr)))
 
-  module _ (now : Object) (made : IsMadeFrom mapped tables now) where
+  module _ (now : Object) (made : IsMadeBy IsRereadCell mapped tables now) where
     pub made_fresh : is_identified now ≡ true → IsFresh mapped tables now
     made_fresh identified = read_fresh (loaded_object mapped now.class made.0) now made.1 identified (loaded_fresh now.class made.0)
 
@@ -127,8 +141,8 @@ module _ (mapped : Mapped) (tables : Tables) where
 
   -- ---- each object
 
-  pub each_loaded : (P : Object → Type 0) (old : Graph) (own : Loading) → ((was now : Object) → IsReadFrom mapped tables was now → is_identified now ≡ true → P was → P now) → ((now : Object) → IsMadeFrom mapped tables now → is_identified now ≡ true → P now)
-      → IsLoadedFrom mapped tables old own
+  pub each_loaded : (P : Object → Type 0) (old : Graph) (own : Loading) → ((was now : Object) → IsReadBy IsRereadCell mapped tables was now → is_identified now ≡ true → P was → P now) → ((now : Object) → IsMadeBy IsRereadCell mapped tables now → is_identified now ≡ true → P now)
+      → IsLoadedBy IsRereadCell mapped tables old own
       → EachObject P old → EachObject P own.graph
   each_loaded P old own stays makes loaded all place less =
       let identified : is_identified (object_in own.graph place) ≡ true = loaded.graph.identified place no_object less in
@@ -136,3 +150,20 @@ module _ (mapped : Mapped) (tables : Tables) where
       (λ (there : place < length old.objects). stays (object_in old place) (object_in own.graph place) (loaded.read place there) identified (all place there))
       (λ (past : length old.objects ≤ place). makes (object_in own.graph place) (loaded.made place past less) identified)
       (cases_lt place (length old.objects))
+
+-- ---- what loads leave
+
+module _ (mapped : Mapped) (tables : Tables) where
+  read_anew : (was now : Object) → IsReadBy IsReadCell mapped tables was now → IsReadBy IsRereadCell mapped tables was now
+  read_anew was now read = record { rest = read.rest; long = read.long; linked = read.linked; cells = λ attr less. inl (read.cells attr less) }
+
+-- is left of loads that read anew
+pub loaded_anew : (world : World) (own : Loading) → IsLoadOf world own → IsRereadOf world own
+loaded_anew world own loads = record {
+  fit = loads.fit;
+  graph = loads.graph;
+  grows = loads.grows;
+  read = λ place less. read_anew world.own.mapping world.store.tables (object_in world.own.graph place) (object_in own.graph place) (loads.read place less);
+  made = λ place past less. let made = loads.made place past less in (made.0, read_anew world.own.mapping world.store.tables (loaded_object world.own.mapping (object_in own.graph place).class made.0) (object_in own.graph place) made.1);
+  noted = loads.noted;
+}

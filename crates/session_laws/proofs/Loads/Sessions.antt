@@ -25,7 +25,7 @@ use Rattle.session_laws.specs.Scopes.{object_in}
 use Rattle.session_laws.specs.Sound.{AreApart, AreSoundScopes, IsAsAtStart, IsFresh, IsMarkedRight, IsSound, RestIf, as_object}
 use Rattle.session_laws.specs.Health.Health.{AreNamedSince, IsOrderly, IsOrderlySession, is_named_in}
 use Rattle.session_laws.specs.Whole.{IsKeyed}
-use Rattle.session_laws.specs.Loads.{IsLoadedFrom, IsNotedAt}
+use Rattle.session_laws.specs.Loads.{IsLoadedBy, IsNotedAt, IsRereadCell}
 use Rattle.session_laws.proofs.Sound.Changes.{rest_inside}
 use Rattle.session_laws.proofs.Sound.Touches.{not_true, other_answer}
 use Rattle.session_laws.proofs.Health.Named.{named_inside, named_more}
@@ -62,7 +62,7 @@ apart_grown old new scope grows rooted few apart root key i j one other =
 
 -- an object that is untouched now was so before, and is as it was
 untouched_loaded : (mapped : Mapped) (held tables : Tables) (old : Graph) (own : Loading) (frames : Framed) (depth place : ℕ) (start : Standing) → 1 ≤ depth → depth ≤ length frames.scopes
-    → (place < length old.objects → is_touched frames depth place ≡ false → IsAsAtStart mapped tables start (object_in old place)) → IsLoadedFrom mapped held old own
+    → (place < length old.objects → is_touched frames depth place ≡ false → IsAsAtStart mapped tables start (object_in old place)) → IsLoadedBy IsRereadCell mapped held old own
     → place < length own.graph.objects → is_touched (frames_filled own.graph own.notes frames) depth place ≡ false → IsAsAtStart mapped tables start (object_in own.graph place)
 untouched_loaded mapped held tables old own frames depth place start low high was loaded less is = by (loaded.noted place less)
   where
@@ -73,7 +73,7 @@ untouched_loaded mapped held tables old own frames depth place start low high wa
         not_true (is_touched frames depth place) (λ before. other_answer (is_touched (frames_filled own.graph own.notes frames) depth place) is (filled_stays own.graph own.notes frames depth place low high before)) in
         subst (IsAsAtStart mapped tables start) (sym same.1) (was same.0 untouched)
 
-module _ (mapped : Mapped) (held : Tables) (old : Graph) (own : Loading) (frames : Framed) (loaded : IsLoadedFrom mapped held old own) (rooted : length old.roots ≡ length old.objects) where
+module _ (mapped : Mapped) (held : Tables) (old : Graph) (own : Loading) (frames : Framed) (loaded : IsLoadedBy IsRereadCell mapped held old own) (rooted : length old.roots ≡ length old.objects) where
   scopes_loaded : (scopes : List Scope) (starts : List Tables) → length scopes ≤ length frames.scopes → AreSoundScopes mapped old frames scopes starts → AreSoundScopes mapped own.graph (frames_filled own.graph own.notes frames) scopes starts
   scopes_loaded [] [] few sound = tt
   scopes_loaded [] (tables ∷ starts) few sound = absurd sound
@@ -92,7 +92,7 @@ module _ (mapped : Mapped) (held : Tables) (old : Graph) (own : Loading) (frames
 
 -- ---- sound sessions
 
-pub loaded_sound : (own : SessionState) (store : Store) (after : Loading) → has_scope own.frames.scopes ≡ true → IsLoadedFrom own.mapping store.tables own.graph after → IsSound (record { own = own; store = store }) → IsSound (record { own = with_loaded after own; store = store })
+pub loaded_sound : (own : SessionState) (store : Store) (after : Loading) → has_scope own.frames.scopes ≡ true → IsLoadedBy IsRereadCell own.mapping store.tables own.graph after → IsSound (record { own = own; store = store }) → IsSound (record { own = with_loaded after own; store = store })
 loaded_sound own store after opened loaded sound =
     let frames : Framed = frames_filled after.graph after.notes own.frames in
     let same : frames.scopes ≡ own.frames.scopes = filled_scopes after.graph after.notes own.frames in
@@ -109,10 +109,10 @@ loaded_sound own store after opened loaded sound =
 -- ---- orderly sessions
 
 -- who had an identity has it
-named_loaded : (mapped : Mapped) (tables : Tables) (old : Graph) (own : Loading) → IsLoadedFrom mapped tables old own → (place : ℕ) → is_named_in old place ≡ true → is_named_in own.graph place ≡ true
+named_loaded : (mapped : Mapped) (tables : Tables) (old : Graph) (own : Loading) → IsLoadedBy IsRereadCell mapped tables old own → (place : ℕ) → is_named_in old place ≡ true → is_named_in own.graph place ≡ true
 named_loaded mapped tables old own loaded place is = read_named mapped tables (object_in old place) (object_in own.graph place) (loaded.read place (named_inside old place is)) is
 
-pub loaded_orderly : (tables : Tables) (after : Loading) (own : SessionState) → IsLoadedFrom own.mapping tables own.graph after → IsOrderlySession own → IsOrderlySession (with_loaded after own)
+pub loaded_orderly : (tables : Tables) (after : Loading) (own : SessionState) → IsLoadedBy IsRereadCell own.mapping tables own.graph after → IsOrderlySession own → IsOrderlySession (with_loaded after own)
 loaded_orderly tables after own loaded orderly =
     let frames : Framed = frames_filled after.graph after.notes own.frames in
     record {

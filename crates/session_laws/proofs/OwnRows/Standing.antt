@@ -4,9 +4,8 @@ use Rattle.std.specs.Prelude.{slice_get}
 use Rattle.std.specs.Cmp.Lexicographic.{as_long}
 use Rattle.std.specs.List.{AllByRecursion, count_by, enumerate_from, list_any, range_with_len}
 use Rattle.std.specs.Option.{option_and_then}
-use Rattle.std.proofs.lemmas.Bool.{and_parts, eq-eqb, eqb-true}
+use Rattle.std.proofs.lemmas.Bool.{eq-eqb, eqb-true}
 use Rattle.std.proofs.lemmas.List.{get_or-map, length-map}
-use Rattle.std.proofs.lemmas.List.Elements.{recursion_from_All}
 use Rattle.std.proofs.lemmas.List.FromFn.{get_or-enumerate_from, length-enumerate_from}
 use Rattle.std.proofs.lemmas.List.Sums.{sum_by-cons}
 use Rattle.std.proofs.lemmas.Option.{get_or_from_slice_get, same_Some, slice_get-get_or, slice_get_within}
@@ -28,7 +27,7 @@ use Rattle.class_layouts.specs.Columns.{attribute_at, is_key}
 use Rattle.class_layouts.specs.Faults.{maps_name}
 use Rattle.class_mapping.specs.Mapped.{Mapped, attribute_of, attributes_of, no_attribute, root_table, tables_of}
 use Rattle.class_mapping.specs.Related.{AreRelated, IsRelated}
-use Rattle.class_mapping.proofs.Having.{Has, all_from, any_has, from_filter, has_filter, has_map, has_numbered, some_of, true_false}
+use Rattle.class_mapping.proofs.Having.{Has, any_has, from_filter, has_filter, has_map, has_numbered, some_of, true_false}
 use Rattle.class_mapping.proofs.Lists.{or_none}
 use Rattle.class_mapping.proofs.PairedLemmas.{has_pairs}
 use Rattle.class_mapping.proofs.RelatedKeys.{same_table}
@@ -49,9 +48,8 @@ use Rattle.flush_plan.specs.Stating.{row_at}
 use Rattle.object_rows.specs.declared.prepared.Prepared.{Prepared}
 use Rattle.object_rows.specs.Cells.{key_value}
 use Rattle.object_rows.specs.Rows.{cell_for, columns_at, gone_cell, gone_row, is_joined, key_or_none, key_part, value_before}
-use Rattle.object_rows.specs.Seen.{object_ids}
-use Rattle.object_rows.proofs.ObjectSteps.{kept_made}
 use Rattle.pair_rows.specs.Pairs as pairs
+use Rattle.pair_rows.proofs.FirstLemmas.{firsts_all}
 use Rattle.session_laws.proofs.Plans.Between.{legal_cells, legal_key}
 use Rattle.session_laws.proofs.Projects.LateKeys.{each_has}
 use Rattle.session_laws.proofs.Projects.Loose.{has_place}
@@ -60,12 +58,13 @@ use Rattle.session_laws.specs.Graphs.{HasTablesOnce, IsWellMapped, key_held}
 use Rattle.session_laws.proofs.Graphs.MappingFacts.{once_law}
 use Rattle.session_laws.proofs.Graphs.ObjectsApart.{above}
 use Rattle.session_laws.proofs.Graphs.PairsRead.{IsParted, lost_parted, parted_related}
-use Rattle.session_laws.specs.Held.{column_in, held_in}
+use Rattle.session_laws.specs.Held.{IsWhollyKnown, column_in, held_in}
 use Rattle.session_laws.proofs.Held.Columns.{not_same}
 use Rattle.session_laws.proofs.Held.Attributes.{column_place, passed_are}
 use Rattle.session_laws.proofs.Sendable.EndKeys.{key_everywhere}
 use Rattle.session_laws.proofs.Sendable.Roots.{alone, persistent_keyed}
 use Rattle.session_laws.specs.OwnRows.{ObjectsHaveOwnRows, StandInTables}
+use Rattle.session_laws.proofs.OwnRows.PairsOnce.{pairs_once}
 
 -- a configured mapping's classes stand in hierarchies
 pub hierarchies : (mapped : Mapped) → IsWellMapped mapped → HasHierarchies mapped
@@ -192,8 +191,9 @@ module _ (mapped : Mapped) (graph : Graph) (prepared : Prepared) (related : AreR
   pub pairs_unmapped : (class : ClassId) → AllByRecursion (λ (row : GoneRow). is_among (tables_of mapped class) row.name.table ≡ false) (pairs.lost_rows mapped graph prepared)
   unfolding pairs.lost_rows
   pairs_unmapped class =
-      all_map (IsParted mapped graph prepared) (λ (row : GoneRow). is_among (tables_of mapped class) row.name.table ≡ false) (pairs.lost_row mapped graph) (λ pair it. unmapped class pair it)
-      (pairs.lost_pairs mapped graph prepared) (lost_parted mapped graph prepared)
+      firsts_all (λ (row : GoneRow). is_among (tables_of mapped class) row.name.table ≡ false) mapped.schema (map (pairs.lost_row mapped graph) (pairs.lost_pairs mapped graph prepared))
+      (all_map (IsParted mapped graph prepared) (λ (row : GoneRow). is_among (tables_of mapped class) row.name.table ≡ false) (pairs.lost_row mapped graph) (λ pair it. unmapped class pair it)
+      (pairs.lost_pairs mapped graph prepared) (lost_parted mapped graph prepared))
 
 module _ (mapped : Mapped) (graph : Graph) (prepared : Prepared) (old : Tables) (stand : StandInTables mapped graph prepared old) where
   pub classes : HasHierarchies mapped
@@ -202,22 +202,17 @@ module _ (mapped : Mapped) (graph : Graph) (prepared : Prepared) (old : Tables) 
   once : HasTablesOnce mapped
   once = once_law mapped stand.well.lined stand.well.lines
 
-  abbrev to_delete : ObjId → Bool
-  to_delete object = is_persistent (object_at graph object).state && (object_at graph object).marked
-
-  made : AllByRecursion (IsObject graph) prepared.deleted
-  made = recursion_from_All (IsObject graph) prepared.deleted (kept_made graph to_delete prepared.deleted stand.only)
-
   pub record IsToGo (object : ObjId) : Type 0 where
     pub made : IsObject graph object
     pub persists : is_persistent (object_at graph object).state ≡ true
-    pub marked : (object_at graph object).marked ≡ true
+    pub known : IsWhollyKnown (object_at graph object)
 
   pub to_go : (object : ObjId) → Has prepared.deleted object → IsToGo object
-  to_go object has =
-      let found = from_filter to_delete (object_ids graph) object (subst (λ (objects : List ObjId). Has objects object) stand.only has) in
-      let both = and_parts (is_persistent (object_at graph object).state) (object_at graph object).marked found.1 in
-      record { made = each_has (IsObject graph) prepared.deleted object made has; persists = both.0; marked = both.1 }
+  to_go object has = record {
+    made = each_has (IsObject graph) prepared.deleted object stand.made has;
+    persists = each_has (λ (other : ObjId). is_persistent (object_at graph other).state ≡ true) prepared.deleted object stand.standing has;
+    known = each_has (λ (other : ObjId). IsWhollyKnown (object_at graph other)) prepared.deleted object stand.known has;
+  }
 
   -- ---- the key of an object that is to be deleted is that of each of its rows
 
@@ -255,7 +250,7 @@ module _ (mapped : Mapped) (graph : Graph) (prepared : Prepared) (old : Tables) 
         let own = has_place all attribute (from_filter (is_key mapped.schema.tables) all attribute keyed).0 in
         let less : own.0 < length it.cells = omega (arith, slice_get_within all own.0 attribute own.1, fit_cells mapped graph object stand.fit go.made) in
         let cell : Cell = get_or it.cells own.0 expired_cell in
-        let known = known_value cell.base (stand.known (place_of object) inside go.marked (record { 0 = own.0 }) less) in
+        let known = known_value cell.base (go.known (record { 0 = own.0 }) less) in
         let found : cell_for mapped it root (0 + c) ≡ Some cell = ap (option_and_then (slice_get it.cells)) (column_place mapped it.class once own.0 attribute own.1) ∙ slice_get-get_or it.cells own.0 expired_cell less in
         let its : attribute_of mapped it.class (record { 0 = own.0 }) ≡ attribute = get_or_from_slice_get all own.0 attribute no_attribute own.1 in
         let held : held_in old attribute it.identity ≡ Some known.0 = ap (λ (a : Attribute). held_in old a it.identity) (sym its) ∙ stand.holds (place_of object) inside go.persists (record { 0 = own.0 }) known.0 less known.1 in
@@ -316,18 +311,17 @@ module _ (mapped : Mapped) (graph : Graph) (prepared : Prepared) (old : Tables) 
       subst (Has prepared.deleted) (same_object some.0 object some.2) some.1
 
 pub own_rows : ObjectsHaveOwnRows
-unfolding object_ids
-own_rows mapped graph prepared old stand once = record {
+own_rows mapped graph prepared old stand = record {
   fit = stand.fit;
   keyed = record {
-    made = made mapped graph prepared old stand;
-    standing = all_from (λ (object : ObjId). is_persistent (object_at graph object).state ≡ true) prepared.deleted (λ object has. (to_go mapped graph prepared old stand object has).persists);
-    once = ap (some_two (λ (one other : ObjId). one.0 == other.0)) stand.only ∙ ids_once (to_delete mapped graph prepared old stand) 0 (length graph.objects);
+    made = stand.made;
+    standing = stand.standing;
+    once = stand.once;
     alone = alone mapped (classes mapped graph prepared old stand) graph stand.fit stand.is;
     read = λ object table among there.
         let has = among_deleted mapped graph prepared old stand object among in
         keyed_there mapped graph prepared old stand object (to_go mapped graph prepared old stand object has) table (among_has (tables_of mapped (object_at graph object).class) table there);
-    pairs = once;
+    pairs = pairs_once mapped graph prepared;
     secondary = pairs_unmapped mapped graph prepared stand.well.related stand.fit;
   };
 }

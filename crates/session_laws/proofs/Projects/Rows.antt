@@ -21,6 +21,7 @@ use Rattle.object_rows.specs.declared.prepared.Prepared.{Prepared}
 use Rattle.object_rows.specs.Rows as rows
 use Rattle.object_rows.specs.Seen.{keeps_rows, object_ids}
 use Rattle.pair_rows.specs.Pairs as pairs
+use Rattle.pair_rows.proofs.FirstLemmas.{firsts_all}
 use Rattle.row_project.specs.Changes.{object_changes, project}
 use Rattle.row_partners.specs.Partners as switching
 use Rattle.row_switches.specs.Switch as switch
@@ -122,9 +123,10 @@ gone_whole mapped graph prepared =
 lost_whole : (mapped : Mapped) (graph : Graph) (prepared : Prepared) → AllByRecursion (IsWholeBase mapped.schema) (pairs.lost_rows mapped graph prepared)
 unfolding pairs.lost_rows
 lost_whole mapped graph prepared =
-    map_given (IsWholeBase mapped.schema) (pairs.lost_row mapped graph)
+    firsts_all (IsWholeBase mapped.schema) mapped.schema (map (pairs.lost_row mapped graph) (pairs.lost_pairs mapped graph prepared))
+    (map_given (IsWholeBase mapped.schema) (pairs.lost_row mapped graph)
     (λ pair. length-map (rows.columns_at mapped pair.0) (λ column. given_value (pairs.pair_cell mapped graph [] pair column)))
-    (pairs.lost_pairs mapped graph prepared)
+    (pairs.lost_pairs mapped graph prepared))
 
 pub bases_whole : GoneRowsAreWhole
 bases_whole mapped graph prepared =

@@ -1,59 +1,20 @@
 -- What was touched and what was loaded, after one act.
-use Rattle.std.proofs.Common.{◌≡◌, ◌≢◌, ℕ, ◌+◌, ◌-◌, ◌<◌, ◌≤◌, Bool, true, false, ◌||◌, List, [], ◌∷◌, ◌++◌, length, map, get_or, zero, suc, Ok, Err, refl, sym, ap, ◌∙◌, subst, ⊎_elim, arith}
-use Rattle.std.specs.Prelude.{min, nat_le, nat_lt, replicate, ◌==◌, if◌then◌else◌}
-use Rattle.std.proofs.Math.ListN.{get_or-map}
-use Rattle.std.proofs.lemmas.Bool.{cases_Bool, cases_eq, cases_lt}
+use Rattle.std.proofs.Common.{◌≡◌, ◌≢◌, ℕ, ◌-◌, ◌<◌, ◌≤◌, Bool, true, false, ◌||◌, List, [], ◌∷◌, length, Ok, Err, refl, sym, ap, ◌∙◌, subst, ⊎_elim, arith}
+use Rattle.std.specs.Prelude.{nat_le, nat_lt, if◌then◌else◌}
+use Rattle.std.proofs.lemmas.Bool.{cases_eq, cases_lt}
 use Rattle.std.proofs.lemmas.Bool.Decides.{nat_tests}
-use Rattle.std.proofs.lemmas.List.{get_or-replicate, get_or-set_other, get_or-set_same, get_or_past, length-append, length-drop, length-replicate}
+use Rattle.std.proofs.lemmas.List.{length-drop}
 use Rattle.base_core.specs.declared.ids.ObjId.{ObjId}
 use Rattle.base_core.specs.declared.refusal.LimitKind.TheVariants.{Savepoints}
 use Rattle.base_core.specs.declared.refusal.Refusal.TheVariants.{LimitReached}
 use Rattle.object_arena.specs.Graph.{Graph, object_at, place_of}
 use Rattle.savepoints.specs.declared.scope.Scope.{Scope}
 use Rattle.savepoints.specs.declared.traces.Trace.{Trace}
-use Rattle.savepoints.specs.Scopes.{Framed, around, begun_at, is_touched, left_at, no_trace, outward, padded_traces, push, scope_released, scope_limit, touch, touch_in, touched_trace, trace_in, with_trace}
+use Rattle.savepoints.specs.Scopes.{Framed, around, begun_at, is_touched, left_at, outward, push, scope_released, scope_limit, touch, touch_in, touched_trace, trace_in, with_trace}
+use Rattle.savepoints.proofs.PutLemmas.{capped, outward_some, passed_out, put_here, put_there}
 use Rattle.session_laws.specs.Scopes.{Change, LoadsGrow, Objects, OnlyTouchesTouch, Push, Release, Restore, Touch, TouchTouches, TouchesGrow, after_act, after_push}
 
--- ---- one trace is put in
-
-padding : (n j : ℕ) → get_or (replicate n no_trace) j no_trace ≡ no_trace
-padding n j =
-    ⊎_elim
-    (λ (less : j < n). get_or-replicate n j no_trace no_trace less)
-    (λ (past : n ≤ j). get_or_past (replicate n no_trace) j no_trace (omega (arith, past, length-replicate n no_trace)))
-    (cases_lt j n)
-
-padded_same : (traces : List Trace) (n j : ℕ) → get_or (traces ++ replicate n no_trace) j no_trace ≡ get_or traces j no_trace
-padded_same [] n j = padding n j
-padded_same (trace ∷ traces) n zero = refl
-padded_same (trace ∷ traces) n (suc j) = padded_same traces n j
-
-put_here : (traces : List Trace) (place : ℕ) (trace : Trace) → trace_in (with_trace traces place trace) place ≡ trace
-put_here traces place trace =
-    get_or-set_same (padded_traces traces place) place trace no_trace
-    (omega (arith, length-append traces (replicate (place + 1 - length traces) no_trace), length-replicate (place + 1 - length traces) no_trace))
-
-put_there : (traces : List Trace) (place other : ℕ) (trace : Trace) → other ≢ place → trace_in (with_trace traces place trace) other ≡ trace_in traces other
-put_there traces place other trace apart = get_or-set_other (padded_traces traces place) place other trace no_trace apart ∙ padded_same traces (place + 1 - length traces) other
-
--- ---- all pass outwards
-
-outward_none : (depth : ℕ) → outward depth no_trace ≡ no_trace
-outward_none depth =
-    ⊎_elim
-    (λ (none : depth == 0 ≡ true). ap (λ (b : Bool). if b then no_trace else record no_trace { depth = min 0 depth }) none)
-    (λ (some : depth == 0 ≡ false).
-    let least : min 0 depth ≡ 0 = omega arith in
-    ap (λ (b : Bool). if b then no_trace else record no_trace { depth = min 0 depth }) some ∙ ap (λ (n : ℕ). record no_trace { depth = n }) least)
-    (cases_Bool (depth == 0))
-
-passed : (depth : ℕ) (traces : List Trace) (place : ℕ) → trace_in (map (outward depth) traces) place ≡ outward depth (trace_in traces place)
-passed depth traces place = ap (λ (t : Trace). get_or (map (outward depth) traces) place t) (sym (outward_none depth)) ∙ get_or-map (outward depth) traces place no_trace
-
-outward_some : (depth : ℕ) (trace : Trace) → 1 ≤ depth → outward depth trace ≡ record trace { depth = min trace.depth depth }
-outward_some depth trace some =
-    let more : depth == 0 ≡ false = grind (arith, nat_tests) in
-    ap (λ (b : Bool). if b then no_trace else record trace { depth = min trace.depth depth }) more
+-- ---- what is left of scopes
 
 -- as many scopes are left as are to be, or fewer
 left_few : (left : ℕ) (frames : Framed) → length (left_at left frames).scopes ≤ left
@@ -63,33 +24,18 @@ left_touched : (left : ℕ) (frames : Framed) (depth place : ℕ) → 1 ≤ dept
 left_touched left frames depth place first last =
     let within : depth ≤ left = omega (arith, last, left_few left frames) in
     let trace : Trace = trace_in frames.traces place in
-    ap (λ (t : Trace). nat_le depth t.depth) (passed left frames.traces place ∙ outward_some left trace (omega (arith, first, within)))
+    ap (λ (t : Trace). nat_le depth t.depth) (passed_out left frames.traces place ∙ outward_some left trace (omega (arith, first, within)))
     ∙ capped depth left trace.depth within
-  where
-    capped : (depth left own : ℕ) → depth ≤ left → nat_le depth (min own left) ≡ nat_le depth own
-    capped depth left own within =
-        ⊎_elim
-        (λ (less : own < depth).
-        let no : nat_le depth own ≡ false = grind (arith, nat_tests) in
-        let lesser : min own left < depth = omega (arith, less) in
-        let neither : nat_le depth (min own left) ≡ false = grind (arith, nat_tests) in
-        neither ∙ sym no)
-        (λ (past : depth ≤ own).
-        let yes : nat_le depth own ≡ true = grind (arith, nat_tests) in
-        let both : depth ≤ min own left = omega (arith, past, within) in
-        let either : nat_le depth (min own left) ≡ true = grind (arith, nat_tests) in
-        either ∙ sym yes)
-        (cases_lt own depth)
 
 left_loaded : (left : ℕ) (frames : Framed) (place : ℕ) → 1 ≤ left → (trace_in (left_at left frames).traces place).loaded ≡ (trace_in frames.traces place).loaded
-left_loaded left frames place some = ap (λ (t : Trace). t.loaded) (passed left frames.traces place ∙ outward_some left (trace_in frames.traces place) some)
+left_loaded left frames place some = ap (λ (t : Trace). t.loaded) (passed_out left frames.traces place ∙ outward_some left (trace_in frames.traces place) some)
 
 left_was_loaded : (left : ℕ) (frames : Framed) (place : ℕ) → (trace_in (left_at left frames).traces place).loaded ≡ true → (trace_in frames.traces place).loaded ≡ true
 left_was_loaded left frames place loaded =
     ⊎_elim
     (λ (none : left < 1).
     let nothing : left ≡ 0 = omega (arith, none) in
-    let e : false ≡ true = sym (ap (λ (k : ℕ). (outward k (trace_in frames.traces place)).loaded) nothing) ∙ sym (ap (λ (t : Trace). t.loaded) (passed left frames.traces place)) ∙ loaded in
+    let e : false ≡ true = sym (ap (λ (k : ℕ). (outward k (trace_in frames.traces place)).loaded) nothing) ∙ sym (ap (λ (t : Trace). t.loaded) (passed_out left frames.traces place)) ∙ loaded in
     absurd cc)
     (λ (some : 1 ≤ left). sym (left_loaded left frames place some) ∙ loaded)
     (cases_lt left 1)

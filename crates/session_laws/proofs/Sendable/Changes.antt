@@ -321,9 +321,9 @@ module _ (mapped : Mapped) (well : IsWellMapped mapped) (has : HasHierarchies ma
   )
 
   first_gone : AllByRecursion (IsFitGone schema) first.gone
-  unfolding rows.gone_rows pairs.lost_rows
+  unfolding rows.gone_rows
   first_gone =
-      all_append (IsFitGone schema) (flat_map (rows.rows_gone mapped graph) prepared.deleted) (map (pairs.lost_row mapped graph) (pairs.lost_pairs mapped graph prepared))
+      all_append (IsFitGone schema) (flat_map (rows.rows_gone mapped graph) prepared.deleted) (pairs.lost_rows mapped graph prepared)
       (all_from (IsFitGone schema) (flat_map (rows.rows_gone mapped graph) prepared.deleted) (λ row among.
       let from = from_flat (rows.rows_gone mapped graph) prepared.deleted row among in
       let made : IsObject graph from.0 = each_has (IsObject graph) prepared.deleted from.0 keyed.made from.1 in

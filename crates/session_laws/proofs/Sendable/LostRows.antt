@@ -38,6 +38,7 @@ use Rattle.object_rows.specs.Cells.{end_cell, foreign_cell, or_first, part_cell}
 use Rattle.object_rows.specs.Seen.{is_in_session, link_of, object_ids}
 use Rattle.object_rows.proofs.ObjectSteps.{all_made}
 use Rattle.pair_rows.specs.Pairs as pairs
+use Rattle.pair_rows.proofs.FirstLemmas.{firsts_all}
 use Rattle.session_laws.proofs.Graphs.Named.{opposite}
 use Rattle.session_laws.proofs.Graphs.PairsRead.{IsParted, lost_parted, parted_related}
 use Rattle.session_laws.proofs.Projects.LateKeys.{each_has}
@@ -244,5 +245,6 @@ module _ (mapped : Mapped) (has : HasHierarchies mapped) (related : AreRelated m
   pub lost_rows_fit : AllByRecursion (IsFitGone mapped.schema) (pairs.lost_rows mapped graph prepared)
   unfolding pairs.lost_rows
   lost_rows_fit =
-      all_map (IsParted mapped graph prepared) (IsFitGone mapped.schema) (pairs.lost_row mapped graph) (λ pair parted. row_fits pair (parted_keyed pair parted))
-      (pairs.lost_pairs mapped graph prepared) (lost_parted mapped graph prepared)
+      firsts_all (IsFitGone mapped.schema) mapped.schema (map (pairs.lost_row mapped graph) (pairs.lost_pairs mapped graph prepared))
+      (all_map (IsParted mapped graph prepared) (IsFitGone mapped.schema) (pairs.lost_row mapped graph) (λ pair parted. row_fits pair (parted_keyed pair parted))
+      (pairs.lost_pairs mapped graph prepared) (lost_parted mapped graph prepared))

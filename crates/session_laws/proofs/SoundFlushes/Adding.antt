@@ -9,9 +9,7 @@ use Rattle.object_rows.specs.Seen.{object_ids}
 use Rattle.object_rows.proofs.ObjectSteps.{all_made}
 use Rattle.session_calls.specs.Parts.{World}
 use Rattle.session_acts.specs.Flush.{is_to_delete, prepared_of}
-use Rattle.session_laws.specs.Sound.{EachObject, IsSound}
-use Rattle.session_laws.proofs.OwnRows.PairsOnce.{unmarked_once}
-use Rattle.session_laws.proofs.OwnRows.Standing.{hierarchies}
+use Rattle.session_laws.specs.Sound.{EachObject}
 use Rattle.session_laws.specs.SoundFlushes.{AddingFlushKeepsSound, DeletesNothing, IsToldSession, ToldFlushKeepsSound}
 
 none_kept : {A : Type 0} (test : A → Bool) (xs : List A) → AllByRecursion (λ x. test x ≡ false) xs → filter test xs ≡ []
@@ -34,7 +32,7 @@ none_deleted graph unmarked =
     (λ object made. never (is_persistent (object_at graph object).state) (object_at graph object).marked (unmarked (place_of object) (let within : place_of object < length graph.objects = omega (arith, made.0, made.1) in within)))
     (recursion_from_All (IsObject graph) (object_ids graph) (all_made graph (object_ids graph) refl)))
 
-module _ (w : World) (adds : DeletesNothing w) (sound : IsSound w) where
+module _ (w : World) (adds : DeletesNothing w) where
   pub told_session : IsToldSession w
   told_session = record {
     inside = adds.inside;
@@ -43,8 +41,7 @@ module _ (w : World) (adds : DeletesNothing w) (sound : IsSound w) where
     fit = adds.fit;
     keyed = adds.keyed;
     known = λ place less marked. true_false (get_or w.own.graph.objects place no_object).marked marked (adds.unmarked place less);
-    once = unmarked_once w.own.mapping (hierarchies w.own.mapping adds.well) adds.well.related w.own.graph (prepared_of w.own.graph) adds.fit sound.graph (none_deleted w.own.graph adds.unmarked);
   }
 
 pub adding_keeps : ToldFlushKeepsSound → AddingFlushKeepsSound
-adding_keeps keeps w adds sound = keeps w (told_session w adds sound) sound
+adding_keeps keeps w adds sound = keeps w (told_session w adds) sound

@@ -1,18 +1,12 @@
-use Rattle.std.proofs.Common.{◌∙◌, Bool, List, refl, sym, subst}
-use Rattle.std.proofs.lemmas.Bool.{and_parts}
-use Rattle.base_core.specs.declared.value.Value.{Value}
+use Rattle.std.proofs.Common.{◌∙◌, refl, sym, subst}
 use Rattle.keeper_core.proofs.Sequence.{no_memory, passed_on}
 use Rattle.load_filling.proofs.LoadedLemmas.{grows_same}
-use Rattle.load_filling.specs.Rows.{row_key}
 use Rattle.load_rows.specs.Loading.{loading}
 use Rattle.load_rows.specs.Reading.{IsRowOf}
 use Rattle.load_calls.proofs.ReadLemmas.{passed_memory, passed_refusal}
 use Rattle.load_calls.specs.Refusals.{CanRefuseRow}
 use Rattle.load_calls.proofs.RefusalLemmas.{row_refuses}
-use Rattle.joined_rows.specs.Parts.{values_from}
-use Rattle.joined_rows.specs.Taking.{are_given, further_keys}
 use Rattle.joined_rows.proofs.MemberLemmas.{is_member, member_refused, member_taken, none_taken}
-use Rattle.joined_rows.proofs.RowLemmas.{is_keyed_row}
 use Rattle.joined_rows.proofs.members.take_member.Goals as goal
 
 pub returns-in_err-is_there-clause-step : goal.returns-in_err-is_there-clause-step
@@ -30,12 +24,7 @@ returns-then-not-is_there-clause-grows c = grows_same c.args.arena.now c.args.ar
 
 pub take_row-requires-clause-row : goal.take_row-requires-clause-row
 take_row-requires-clause-row c =
-    let part = c.args.part in
-    let row : List Value = c.args.row.now in
-    let keyed : Bool = are_given (row_key c.args.mapping.now part.target (values_from part row)) in
-    subst (IsRowOf c.args.mapping.now part.target) (sym c.values_from-values.ensures)
-    (is_keyed_row c.args.mapping.now part.target (values_from part row) c.schema.ensures.configured.hierarchies c.requires.target c.requires.kinds
-    (and_parts keyed (are_given (further_keys part row)) (sym c.in_ok-is_there.ensures ∙ c.if-not-is_there.false)).0)
+    subst (IsRowOf c.args.mapping.now c.args.part.target) (sym c.values_from-values.ensures) (c.requires.row (sym c.in_ok-is_there.ensures ∙ c.if-not-is_there.false))
 
 pub returns-in_err-object-clause-step : goal.returns-in_err-object-clause-step
 returns-in_err-object-clause-step c =
@@ -52,9 +41,9 @@ pub returns-clause-of : goal.returns-clause-of
 returns-clause-of c = is_member c.args.mapping.now c.take_row.new.arena c.args.part c.in_ok-object.object c.in_ok-object.ensures.fits c.in_ok-object.ensures.exists c.in_ok-object.ensures.rooted
 
 pub returns-in_err-is_there-clause-refuses : goal.returns-in_err-is_there-clause-refuses
-returns-in_err-is_there-clause-refuses c = passed_memory CanRefuseRow c.from_residual.result c.from_residual.ensures.1 tt
+returns-in_err-is_there-clause-refuses c = passed_memory (CanRefuseRow c.args.mapping.now c.args.arena.now) c.from_residual.result c.from_residual.ensures.1 tt
 
 pub returns-in_err-object-clause-refuses : goal.returns-in_err-object-clause-refuses
 returns-in_err-object-clause-refuses c =
-    passed_refusal CanRefuseRow _ c.from_residual-in_err-object.result c.from_residual-in_err-object.ensures.1
-    (row_refuses c.args.mapping.now c.args.part.target c.values_from-values.result.now (loading c.args.arena.now c.args.notes.now) (loading c.take_row.new.arena c.take_row.new.notes) _ c.in_err-object.ensures.step)
+    passed_refusal (CanRefuseRow c.args.mapping.now c.take_row.new.arena) _ c.from_residual-in_err-object.result c.from_residual-in_err-object.ensures.1
+    (row_refuses c.args.mapping.now c.args.part.target c.values_from-values.result.now (loading c.args.arena.now c.args.notes.now) (loading c.take_row.new.arena c.take_row.new.notes) _ (subst (IsRowOf c.args.mapping.now c.args.part.target) (sym c.values_from-values.ensures) (c.requires.row (sym c.in_ok-is_there.ensures ∙ c.if-not-is_there.false))) c.in_err-object.ensures.step)

@@ -42,4 +42,4 @@ pub returns-clause-step : goal.returns-clause-step
 returns-clause-step c = each_end (take_next c.args.mapping.now c.args.row.now) c.args.parts.now c.loop-part.part-index c.loop-part.invariant.step c.loop-part-test.false refl
 
 pub returns-in_err-take_next-clause-refuses : goal.returns-in_err-take_next-clause-refuses
-returns-in_err-take_next-clause-refuses c = passed_refusal CanRefuseRow _ c.from_residual.result c.from_residual.ensures.1 c.in_err-take_next.ensures.refuses
+returns-in_err-take_next-clause-refuses c = passed_refusal (CanRefuseRow c.args.mapping.now c.take_next.new.arena) _ c.from_residual.result c.from_residual.ensures.1 c.in_err-take_next.ensures.refuses

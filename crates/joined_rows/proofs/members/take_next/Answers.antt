@@ -13,10 +13,10 @@ pub returns-clause-step : goal.returns-clause-step
 returns-clause-step c = push_taken c.args.members.now c.push.new.self _ c.in_ok-member.ensures.step c.in_ok-push.ensures.ok tt
 
 pub returns-in_err-member-clause-refuses : goal.returns-in_err-member-clause-refuses
-returns-in_err-member-clause-refuses c = passed_refusal CanRefuseRow _ c.from_residual.result c.from_residual.ensures.1 c.in_err-member.ensures.refuses
+returns-in_err-member-clause-refuses c = passed_refusal (CanRefuseRow c.args.mapping.now c.take_member.new.arena) _ c.from_residual.result c.from_residual.ensures.1 c.in_err-member.ensures.refuses
 
 pub returns-in_err-push-clause-refuses : goal.returns-in_err-push-clause-refuses
-returns-in_err-push-clause-refuses c = passed_memory CanRefuseRow c.from_residual-in_err-push.result c.from_residual-in_err-push.ensures.1 tt
+returns-in_err-push-clause-refuses c = passed_memory (CanRefuseRow c.args.mapping.now c.take_member.new.arena) c.from_residual-in_err-push.result c.from_residual-in_err-push.ensures.1 tt
 
 pub returns-clause-of : goal.returns-clause-of
 returns-clause-of c =

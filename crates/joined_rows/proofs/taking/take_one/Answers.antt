@@ -18,10 +18,10 @@ returns-clause-of c = λ all.
     taken_more c.args.mapping.now c.args.arena.now c.take_owner.new.arena c.args.class c.args.parts.now c.args.taken.now c.push.new.self c.in_ok-one.one (Ok tt) c.in_ok-one.ensures.grows c.in_ok-one.ensures.of c.in_ok-push.ensures.ok all
 
 pub returns-in_err-one-clause-refuses : goal.returns-in_err-one-clause-refuses
-returns-in_err-one-clause-refuses c = passed_refusal CanRefuseRow _ c.from_residual.result c.from_residual.ensures.1 c.in_err-one.ensures.refuses
+returns-in_err-one-clause-refuses c = passed_refusal (CanRefuseRow c.args.mapping.now c.take_owner.new.arena) _ c.from_residual.result c.from_residual.ensures.1 c.in_err-one.ensures.refuses
 
 pub returns-in_err-push-clause-refuses : goal.returns-in_err-push-clause-refuses
-returns-in_err-push-clause-refuses c = passed_memory CanRefuseRow c.from_residual-in_err-push.result c.from_residual-in_err-push.ensures.1 tt
+returns-in_err-push-clause-refuses c = passed_memory (CanRefuseRow c.args.mapping.now c.take_owner.new.arena) c.from_residual-in_err-push.result c.from_residual-in_err-push.ensures.1 tt
 
 pub returns-in_err-push-clause-step : goal.returns-in_err-push-clause-step
 returns-in_err-push-clause-step c = passed_on c.from_residual-in_err-push.ensures.1 (push_taken c.args.taken.now c.push.new.self (Err Memory) c.in_ok-one.ensures.step tt refl)

@@ -12,8 +12,8 @@ use Rattle.joined_rows.proofs.taking.take_owner.Goals as goal
 pub take_row-requires-clause-row : goal.take_row-requires-clause-row
 take_row-requires-clause-row c = subst (IsRowOf c.args.mapping.now c.args.class) (sym c.own_values-values.ensures) c.requires.row.own
 
-pub take_members-requires-clause-kinds : goal.take_members-requires-clause-kinds
-take_members-requires-clause-kinds c = c.requires.row.options
+pub take_members-requires-clause-rows : goal.take_members-requires-clause-rows
+take_members-requires-clause-rows c = c.requires.row.targets
 
 pub returns-in_err-owner-clause-step : goal.returns-in_err-owner-clause-step
 returns-in_err-owner-clause-step c =
@@ -23,8 +23,8 @@ returns-in_err-owner-clause-step c =
 
 pub returns-in_err-owner-clause-refuses : goal.returns-in_err-owner-clause-refuses
 returns-in_err-owner-clause-refuses c =
-    passed_refusal CanRefuseRow _ c.from_residual.result c.from_residual.ensures.1
-    (row_refuses c.args.mapping.now c.args.class c.own_values-values.result.now (loading c.args.arena.now c.args.notes.now) (loading c.take_row.new.arena c.take_row.new.notes) _ c.in_err-owner.ensures.step)
+    passed_refusal (CanRefuseRow c.args.mapping.now c.take_row.new.arena) _ c.from_residual.result c.from_residual.ensures.1
+    (row_refuses c.args.mapping.now c.args.class c.own_values-values.result.now (loading c.args.arena.now c.args.notes.now) (loading c.take_row.new.arena c.take_row.new.notes) _ (subst (IsRowOf c.args.mapping.now c.args.class) (sym c.own_values-values.ensures) c.requires.row.own) c.in_err-owner.ensures.step)
 
 pub returns-in_err-members-clause-step : goal.returns-in_err-members-clause-step
 returns-in_err-members-clause-step c =
@@ -36,7 +36,7 @@ pub returns-in_err-members-clause-grows : goal.returns-in_err-members-clause-gro
 returns-in_err-members-clause-grows c = grows_then c.args.arena.now c.take_row.new.arena c.take_members.new.arena c.in_ok-owner.ensures.grows c.in_err-members.ensures.grows
 
 pub returns-in_err-members-clause-refuses : goal.returns-in_err-members-clause-refuses
-returns-in_err-members-clause-refuses c = passed_refusal CanRefuseRow _ c.from_residual-in_err-members.result c.from_residual-in_err-members.ensures.1 c.in_err-members.ensures.refuses
+returns-in_err-members-clause-refuses c = passed_refusal (CanRefuseRow c.args.mapping.now c.take_members.new.arena) _ c.from_residual-in_err-members.result c.from_residual-in_err-members.ensures.1 c.in_err-members.ensures.refuses
 
 pub returns-clause-step : goal.returns-clause-step
 returns-clause-step c =

@@ -8,7 +8,7 @@ use Rattle.load_rows.proofs.TakenLemmas.{grows_filled}
 use Rattle.collection_selects.specs.Pairs.{IsMemberRow}
 use Rattle.load_calls.proofs.ReadLemmas.{passed_memory, passed_refusal, passed_stays, ready_stays}
 use Rattle.load_calls.specs.Refusals.{CanRefuseRows}
-use Rattle.load_calls.proofs.RefusalLemmas.{of_row}
+use Rattle.load_calls.proofs.RefusalLemmas.{of_cells, of_row}
 use Rattle.load_batches.specs.Batches.{objects_in}
 use Rattle.load_batches.specs.declared.members.Member.{Member}
 use Rattle.load_batches.proofs.BatchSteps.{batch_filled, batch_refused, no_batch, none_there, row_refused, some_there}
@@ -26,7 +26,8 @@ pub read_batch-requires-clause-some : goal.read_batch-requires-clause-some
 read_batch-requires-clause-some g c = some_there c.args.owners.now c.if-is_empty.ensures
 
 pub read_batch-requires-clause-keyed : goal.read_batch-requires-clause-keyed
-read_batch-requires-clause-keyed g c = keyed_all c.args.mapping.now c.args.arena.now c.args.relation.now c.args.place c.args.owners.now c.requires.owned
+read_batch-requires-clause-keyed g c = λ configured.
+    keyed_all c.args.mapping.now c.args.arena.now c.args.relation.now c.args.place c.args.owners.now c.requires.owned configured.hierarchies configured.related
 
 pub returns-in_err-rows-clause-step : goal.returns-in_err-rows-clause-step
 returns-in_err-rows-clause-step g c =
@@ -78,10 +79,10 @@ returns-in_err-fill_owners-clause-grows g c = grows_filled c.args.arena.now c.ta
 
 pub returns-in_err-members-clause-refuses : goal.returns-in_err-members-clause-refuses
 returns-in_err-members-clause-refuses g c =
-    passed_refusal (CanRefuseRows c.args.mapping.now) _ c.from_residual-in_err-members.result c.from_residual-in_err-members.ensures.1 (of_row c.args.mapping.now _ c.in_err-members.ensures.refuses)
+    passed_refusal (CanRefuseRows c.args.mapping.now c.take_members.new.arena) _ c.from_residual-in_err-members.result c.from_residual-in_err-members.ensures.1 (of_row c.args.mapping.now c.take_members.new.arena _ c.in_err-members.ensures.refuses)
 
 pub returns-in_err-fill_owners-clause-refuses : goal.returns-in_err-fill_owners-clause-refuses
-returns-in_err-fill_owners-clause-refuses g c = passed_memory (CanRefuseRows c.args.mapping.now) c.from_residual-in_err-fill_owners.result c.from_residual-in_err-fill_owners.ensures.1 tt
+returns-in_err-fill_owners-clause-refuses g c = passed_memory (CanRefuseRows c.args.mapping.now c.fill_owners.new.arena) c.from_residual-in_err-fill_owners.result c.from_residual-in_err-fill_owners.ensures.1 tt
 
 pub returns-in_err-rows-clause-refuses : goal.returns-in_err-rows-clause-refuses
-returns-in_err-rows-clause-refuses g c = passed_refusal (CanRefuseRows c.args.mapping.now) _ c.from_residual.result c.from_residual.ensures.1 c.in_err-rows.ensures.refuses
+returns-in_err-rows-clause-refuses g c = passed_refusal (CanRefuseRows c.args.mapping.now c.args.arena.now) _ c.from_residual.result c.from_residual.ensures.1 (of_cells c.args.mapping.now c.args.arena.now _ c.in_err-rows.ensures.refuses)

@@ -49,7 +49,7 @@ pub returns-clause-step : goal.returns-clause-step
 returns-clause-step g c = each_end (load_from c.args.mapping.now c.args.relation.now c.args.place c.args.owners.now) c.args.starts.now c.loop-start.start-index c.loop-start.invariant.step c.loop-start-test.false refl
 
 pub returns-in_err-load_batch-clause-refuses : goal.returns-in_err-load_batch-clause-refuses
-returns-in_err-load_batch-clause-refuses g c = passed_refusal (CanRefuseRows c.args.mapping.now) _ c.from_residual.result c.from_residual.ensures.1 c.in_err-load_batch.ensures.refuses
+returns-in_err-load_batch-clause-refuses g c = passed_refusal (CanRefuseRows c.args.mapping.now c.load_batch.new.arena) _ c.from_residual.result c.from_residual.ensures.1 c.in_err-load_batch.ensures.refuses
 
 pub load_batch-requires-clause-ready : goal.load_batch-requires-clause-ready
 load_batch-requires-clause-ready g c = c.loop-start.invariant.ready.0

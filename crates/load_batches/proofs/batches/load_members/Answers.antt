@@ -27,4 +27,4 @@ returns-clause-step g c =
     members_loaded g.K.Keeper.moment c.args.mapping.now c.args.relation.now c.args.place c.args.owners.now c.args.arena.now c.in_ok-unloaded.unloaded c.as_slice.result.now c.in_ok-unloaded.ensures.owners c.as_slice.ensures c.load_batches.ensures.step
 
 pub returns-in_err-unloaded-clause-refuses : goal.returns-in_err-unloaded-clause-refuses
-returns-in_err-unloaded-clause-refuses g c = passed_memory (CanRefuseRows c.args.mapping.now) c.from_residual.result c.from_residual.ensures.1 tt
+returns-in_err-unloaded-clause-refuses g c = passed_memory (CanRefuseRows c.args.mapping.now c.args.arena.now) c.from_residual.result c.from_residual.ensures.1 tt

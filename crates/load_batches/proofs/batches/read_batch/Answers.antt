@@ -1,7 +1,12 @@
+use Rattle.std.proofs.Common.{ap, ◌∙◌}
+use Rattle.expr_types.specs.declared.select.Select.{Select}
+use Rattle.sql_semantics.specs.SelectRefusals.{calculates}
+use Rattle.collection_selects.proofs.NoArithmetic.{batch_calculates_nothing}
+use Rattle.load_batches.specs.Batches.{keys_of}
 use Rattle.keeper_core.proofs.Sequence.{no_memory, passed_on}
 use Rattle.load_calls.proofs.ReadLemmas.{passed_memory, passed_stays}
-use Rattle.load_calls.specs.Refusals.{CanRefuseRows}
-use Rattle.load_calls.proofs.RefusalLemmas.{refused_select}
+use Rattle.load_calls.specs.Refreshing.{CanRefuseCells}
+use Rattle.load_calls.proofs.RefusalLemmas.{cells_refused}
 use Rattle.load_batches.proofs.BatchSteps.{batch_read, batch_rows}
 use Rattle.load_batches.proofs.batches.read_batch.Goals as goal
 
@@ -17,10 +22,12 @@ returns-clause-step g c = λ graph.
 
 pub returns-clause-rows : goal.returns-clause-rows
 returns-clause-rows g c =
-    batch_rows c.args.mapping.now c.args.relation.now c.args.owners.now c.in_ok-wanted.wanted c.read-rows.result c.in_ok-wanted.ensures.hierarchies c.requires.related c.in_ok-wanted.ensures.select c.read-rows.ensures.kinds c.read-rows.ensures.given
+    batch_rows c.args.mapping.now c.args.relation.now c.args.owners.now c.in_ok-wanted.wanted c.read-rows.result c.read-rows.ensures.configured.hierarchies c.requires.related c.in_ok-wanted.ensures.select c.read-rows.ensures.kinds c.read-rows.ensures.given
 
 pub returns-in_err-wanted-clause-refuses : goal.returns-in_err-wanted-clause-refuses
-returns-in_err-wanted-clause-refuses g c = passed_memory (CanRefuseRows c.args.mapping.now) c.from_residual.result c.from_residual.ensures.1 tt
+returns-in_err-wanted-clause-refuses g c = passed_memory (CanRefuseCells c.args.mapping.now) c.from_residual.result c.from_residual.ensures.1 tt
 
 pub returns-clause-refuses : goal.returns-clause-refuses
-returns-clause-refuses g c = refused_select c.args.mapping.now c.in_ok-wanted.wanted c.read-rows.result c.read-rows.ensures.refuses
+returns-clause-refuses g c =
+    cells_refused c.args.mapping.now c.in_ok-wanted.wanted c.read-rows.result
+    (ap (λ (s : Select). calculates s) c.in_ok-wanted.ensures.select ∙ batch_calculates_nothing c.args.mapping.now c.args.relation.now (keys_of c.args.owners.now)) c.read-rows.ensures.refuses

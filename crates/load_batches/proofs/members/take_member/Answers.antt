@@ -52,12 +52,15 @@ returns-clause-of c = λ all.
     (objects_pushed c.args.members.now c.push.new.self c.in_ok-owner.owner c.in_ok-object.object (Ok tt) c.in_ok-push.ensures.ok) all
 
 pub returns-in_err-owner-clause-refuses : goal.returns-in_err-owner-clause-refuses
-returns-in_err-owner-clause-refuses c = passed_memory CanRefuseRow c.from_residual.result c.from_residual.ensures.1 tt
+returns-in_err-owner-clause-refuses c = passed_memory (CanRefuseRow c.args.mapping.now c.args.arena.now) c.from_residual.result c.from_residual.ensures.1 tt
 
 pub returns-in_err-object-clause-refuses : goal.returns-in_err-object-clause-refuses
 returns-in_err-object-clause-refuses c =
-    passed_refusal CanRefuseRow _ c.from_residual-in_err-object.result c.from_residual-in_err-object.ensures.1
-    (row_refuses c.args.mapping.now c.args.relation.now.target c.rest_from-values.result.now (loading c.args.arena.now c.args.notes.now) (loading c.take_row.new.arena c.take_row.new.notes) _ c.in_err-object.ensures.step)
+    passed_refusal (CanRefuseRow c.args.mapping.now c.take_row.new.arena) _ c.from_residual-in_err-object.result c.from_residual-in_err-object.ensures.1
+    (row_refuses c.args.mapping.now c.args.relation.now.target c.rest_from-values.result.now (loading c.args.arena.now c.args.notes.now) (loading c.take_row.new.arena c.take_row.new.notes) _
+    (subst (IsRowOf c.args.mapping.now c.args.relation.now.target)
+    (sym (values_behind c.args.mapping.now c.args.relation.now c.args.row.now c.rest_from-values.result.now c.args.width c.requires.width c.rest_from-values.ensures)) c.requires.row)
+    c.in_err-object.ensures.step)
 
 pub returns-in_err-push-clause-refuses : goal.returns-in_err-push-clause-refuses
-returns-in_err-push-clause-refuses c = passed_memory CanRefuseRow c.from_residual-in_err-push.result c.from_residual-in_err-push.ensures.1 tt
+returns-in_err-push-clause-refuses c = passed_memory (CanRefuseRow c.args.mapping.now c.take_row.new.arena) c.from_residual-in_err-push.result c.from_residual-in_err-push.ensures.1 tt

@@ -50,10 +50,10 @@ pub returns-clause-step : goal.returns-clause-step
 returns-clause-step c = each_end (take_member c.args.mapping.now c.args.relation.now) c.args.rows.now c.loop-row.row-index c.loop-row.invariant.step c.loop-row-test.false refl
 
 pub returns-in_err-width-clause-refuses : goal.returns-in_err-width-clause-refuses
-returns-in_err-width-clause-refuses c = passed_memory CanRefuseRow c.from_residual.result c.from_residual.ensures.1 tt
+returns-in_err-width-clause-refuses c = passed_memory (CanRefuseRow c.args.mapping.now c.args.arena.now) c.from_residual.result c.from_residual.ensures.1 tt
 
 pub returns-in_err-places-clause-refuses : goal.returns-in_err-places-clause-refuses
-returns-in_err-places-clause-refuses c = passed_memory CanRefuseRow c.from_residual-in_err-places.result c.from_residual-in_err-places.ensures.1 tt
+returns-in_err-places-clause-refuses c = passed_memory (CanRefuseRow c.args.mapping.now c.args.arena.now) c.from_residual-in_err-places.result c.from_residual-in_err-places.ensures.1 tt
 
 pub returns-in_err-take_member-clause-refuses : goal.returns-in_err-take_member-clause-refuses
-returns-in_err-take_member-clause-refuses c = passed_refusal CanRefuseRow _ c.from_residual-in_err-take_member.result c.from_residual-in_err-take_member.ensures.1 c.in_err-take_member.ensures.refuses
+returns-in_err-take_member-clause-refuses c = passed_refusal (CanRefuseRow c.args.mapping.now c.take_member.new.arena) _ c.from_residual-in_err-take_member.result c.from_residual-in_err-take_member.ensures.1 c.in_err-take_member.ensures.refuses

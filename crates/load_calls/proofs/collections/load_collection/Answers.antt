@@ -13,8 +13,8 @@ use Rattle.load_rows.proofs.TakenLemmas.{grows_filled}
 use Rattle.load_rows.specs.Reading.{IsRowOf}
 use Rattle.load_calls.proofs.ReadLemmas.{passed_memory, passed_refusal, passed_stays, ready_stays}
 use Rattle.load_calls.specs.Refusals.{CanRefuseRows}
-use Rattle.load_calls.proofs.RefusalLemmas.{of_row}
-use Rattle.load_calls.proofs.CollectionLemmas.{class_there, collection_loaded, members_refused, owner_there, rows_refused, same_relation}
+use Rattle.load_calls.proofs.RefusalLemmas.{of_cells, of_row}
+use Rattle.load_calls.proofs.CollectionLemmas.{class_there, collection_loaded, members_refused, owned_related, owner_there, rows_refused, same_relation}
 use Rattle.load_calls.proofs.collections.load_collection.Goals as goal
 
 pub relation_at-relation-requires-clause-class : goal.relation_at-relation-requires-clause-class
@@ -26,6 +26,12 @@ relation_at-relation-requires-clause-place g c = subst (λ (o : Object). c.args.
 pub read_members-requires-clause-relation : goal.read_members-requires-clause-relation
 read_members-requires-clause-relation g c = c.relation_at-relation.ensures.is ∙ ap (λ (o : Object). relation_of c.args.mapping.now o.class c.args.place) c.object.ensures.is
 
+pub read_members-requires-clause-related : goal.read_members-requires-clause-related
+read_members-requires-clause-related g c =
+    owned_related c.args.mapping.now c.args.arena.now c.args.owner c.args.place c.relation_at-relation.result.now c.object.result.now c.relation_at-relation.ensures.related
+    (c.object.ensures.fits c.args.mapping.now c.requires.fit) c.object.ensures.is c.requires.place
+    (c.relation_at-relation.ensures.is ∙ ap (λ (o : Object). relation_of c.args.mapping.now o.class c.args.place) c.object.ensures.is)
+
 pub read_members-requires-clause-many : goal.read_members-requires-clause-many
 read_members-requires-clause-many g c = ap (λ (r : Relation). r.many) (read_members-requires-clause-relation g c) ∙ c.requires.many
 
@@ -34,6 +40,12 @@ returns-in_err-rows-clause-step g c =
     passed_on c.from_residual.ensures.1
     (members_refused g.K.Keeper.moment c.args.mapping.now c.relation_at-relation.result.now (relation_of c.args.mapping.now (object_at c.args.arena.now c.args.owner).class c.args.place) c.args.owner c.args.place _
     (c.relation_at-relation.ensures.is ∙ ap (λ (o : Object). relation_of c.args.mapping.now o.class c.args.place) c.object.ensures.is) c.in_err-rows.ensures.step)
+
+pub take_rows-requires-clause-class : goal.take_rows-requires-clause-class
+take_rows-requires-clause-class g c =
+    (owned_related c.args.mapping.now c.args.arena.now c.args.owner c.args.place c.relation_at-relation.result.now c.object.result.now c.relation_at-relation.ensures.related
+    (c.object.ensures.fits c.args.mapping.now c.requires.fit) c.object.ensures.is c.requires.place
+    (c.relation_at-relation.ensures.is ∙ ap (λ (o : Object). relation_of c.args.mapping.now o.class c.args.place) c.object.ensures.is)).target
 
 pub take_rows-requires-clause-rows : goal.take_rows-requires-clause-rows
 take_rows-requires-clause-rows g c = subst (AllByRecursion (IsRowOf c.args.mapping.now c.relation_at-relation.result.now.target)) (sym c.as_slice.ensures) c.in_ok-rows.ensures.rows
@@ -97,11 +109,11 @@ returns-in_err-rows-clause-grows g c = grows_same c.args.arena.now c.args.arena.
 
 pub returns-in_err-members-clause-refuses : goal.returns-in_err-members-clause-refuses
 returns-in_err-members-clause-refuses g c =
-    passed_refusal (CanRefuseRows c.args.mapping.now) _ c.from_residual-in_err-members.result c.from_residual-in_err-members.ensures.1 (of_row c.args.mapping.now _ c.in_err-members.ensures.refuses)
+    passed_refusal (CanRefuseRows c.args.mapping.now c.take_rows.new.arena) _ c.from_residual-in_err-members.result c.from_residual-in_err-members.ensures.1 (of_row c.args.mapping.now c.take_rows.new.arena _ c.in_err-members.ensures.refuses)
 
 pub returns-in_err-fill_collection-clause-refuses : goal.returns-in_err-fill_collection-clause-refuses
 returns-in_err-fill_collection-clause-refuses g c =
-    passed_memory (CanRefuseRows c.args.mapping.now) c.from_residual-in_err-fill_collection.result c.from_residual-in_err-fill_collection.ensures.1 tt
+    passed_memory (CanRefuseRows c.args.mapping.now c.fill_collection.new.arena) c.from_residual-in_err-fill_collection.result c.from_residual-in_err-fill_collection.ensures.1 tt
 
 pub returns-in_err-rows-clause-refuses : goal.returns-in_err-rows-clause-refuses
-returns-in_err-rows-clause-refuses g c = passed_refusal (CanRefuseRows c.args.mapping.now) _ c.from_residual.result c.from_residual.ensures.1 c.in_err-rows.ensures.refuses
+returns-in_err-rows-clause-refuses g c = passed_refusal (CanRefuseRows c.args.mapping.now c.args.arena.now) _ c.from_residual.result c.from_residual.ensures.1 (of_cells c.args.mapping.now c.args.arena.now _ c.in_err-rows.ensures.refuses)

@@ -1,5 +1,6 @@
 use Rattle.std.proofs.Common.{◌∙◌, subst, sym}
 use Rattle.schema_core.specs.Catalog.{Catalog}
+use Rattle.sql_semantics.specs.Plain.{IsPlainSelect}
 use Rattle.expr_typing.specs.ItemShapes.{AreAnswers}
 use Rattle.expr_typing.proofs.Items.{rows_answer}
 use Rattle.keeper_core.proofs.Lifting.{spoiled}
@@ -7,6 +8,10 @@ use Rattle.keeper_core.proofs.Sequence.{passed_on, ran_out}
 use Rattle.keeper_core.specs.Keeping.{RefusesSelect}
 use Rattle.load_calls.proofs.ReadLemmas.{passed_memory, passed_refusal, passed_stays, passed_still, query_is, read_done, stays_after}
 use Rattle.load_calls.proofs.reading.read.Goals as goal
+
+pub query-requires-clause-plain : goal.query-requires-clause-plain
+query-requires-clause-plain g c =
+    subst (λ (s : Catalog). IsPlainSelect s c.args.select.now) (sym c.schema-schema.ensures.schema) (c.requires.plain c.schema-schema.ensures.configured)
 
 pub returns-in_err-note_select-clause-step : goal.returns-in_err-note_select-clause-step
 returns-in_err-note_select-clause-step g c = λ graph. passed_on c.from_residual.ensures.1 (spoiled g.K.Keeper.moment)

@@ -2,7 +2,7 @@ use Rattle.std.proofs.lemmas.Result.{IfOk-weaker}
 use Rattle.keeper_core.proofs.Sequence.{no_memory, passed_on}
 use Rattle.load_calls.specs.Refreshing.{CanRefuseCells}
 use Rattle.load_calls.proofs.ReadLemmas.{passed_memory, passed_stays}
-use Rattle.load_calls.proofs.RefreshLemmas.{all_refuse, cells_noted, cells_read}
+use Rattle.load_calls.proofs.RefreshLemmas.{all_refuse, cells_noted, cells_quiet, cells_read}
 use Rattle.load_calls.proofs.refreshing.read_cells.Goals as goal
 
 pub returns-in_err-select-clause-step : goal.returns-in_err-select-clause-step
@@ -19,10 +19,11 @@ returns-clause-step g c =
     cells_read g.K.Keeper.moment c.args.mapping.now c.args.object c.args.attrs.now c.args.arena.now c.in_ok-select.select c.in_ok-select.ensures.select (c.read-rows.ensures.step c.args.arena.now)
 
 pub returns-clause-cells : goal.returns-clause-cells
-returns-clause-cells g c = IfOk-weaker c.read-rows.result _ _ c.in_ok-select.ensures.cells c.read-rows.ensures.kinds
+returns-clause-cells g c = IfOk-weaker c.read-rows.result _ _ (c.in_ok-select.ensures.cells c.read-rows.ensures.configured) c.read-rows.ensures.kinds
 
 pub returns-clause-refuses : goal.returns-clause-refuses
-returns-clause-refuses g c = all_refuse c.args.mapping.now c.in_ok-select.select c.read-rows.result c.read-rows.ensures.refuses
+returns-clause-refuses g c =
+    all_refuse c.args.mapping.now c.in_ok-select.select c.read-rows.result (cells_quiet c.args.mapping.now c.args.object c.args.attrs.now c.args.arena.now c.in_ok-select.select c.in_ok-select.ensures.select) c.read-rows.ensures.refuses
 
 pub returns-clause-noted : goal.returns-clause-noted
 returns-clause-noted g c =

@@ -32,8 +32,8 @@ returns-clause-of c = λ all.
 
 pub returns-in_err-object-clause-refuses : goal.returns-in_err-object-clause-refuses
 returns-in_err-object-clause-refuses c =
-    passed_refusal CanRefuseRow _ c.from_residual.result c.from_residual.ensures.1
-    (row_refuses c.args.mapping.now c.args.class c.args.values.now (loading c.args.arena.now c.args.notes.now) (loading c.take_row.new.arena c.take_row.new.notes) _ c.in_err-object.ensures.step)
+    passed_refusal (CanRefuseRow c.args.mapping.now c.take_row.new.arena) _ c.from_residual.result c.from_residual.ensures.1
+    (row_refuses c.args.mapping.now c.args.class c.args.values.now (loading c.args.arena.now c.args.notes.now) (loading c.take_row.new.arena c.take_row.new.notes) _ c.requires.row c.in_err-object.ensures.step)
 
 pub returns-in_err-push-clause-refuses : goal.returns-in_err-push-clause-refuses
-returns-in_err-push-clause-refuses c = passed_memory CanRefuseRow c.from_residual-in_err-push.result c.from_residual-in_err-push.ensures.1 tt
+returns-in_err-push-clause-refuses c = passed_memory (CanRefuseRow c.args.mapping.now c.take_row.new.arena) c.from_residual-in_err-push.result c.from_residual-in_err-push.ensures.1 tt

@@ -37,4 +37,4 @@ pub returns-clause-step : goal.returns-clause-step
 returns-clause-step c = each_end (take_next c.args.mapping.now c.args.class) c.args.rows.now c.loop-row.row-index c.loop-row.invariant.step c.loop-row-test.false refl
 
 pub returns-in_err-take_next-clause-refuses : goal.returns-in_err-take_next-clause-refuses
-returns-in_err-take_next-clause-refuses c = passed_refusal CanRefuseRow _ c.from_residual.result c.from_residual.ensures.1 c.in_err-take_next.ensures.refuses
+returns-in_err-take_next-clause-refuses c = passed_refusal (CanRefuseRow c.args.mapping.now c.take_next.new.arena) _ c.from_residual.result c.from_residual.ensures.1 c.in_err-take_next.ensures.refuses

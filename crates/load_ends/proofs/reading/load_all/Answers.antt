@@ -13,7 +13,7 @@ pub returns-in_err-starts-clause-grows : goal.returns-in_err-starts-clause-grows
 returns-in_err-starts-clause-grows g c = grows_same c.args.arena.now c.args.arena.now refl
 
 pub returns-in_err-starts-clause-refuses : goal.returns-in_err-starts-clause-refuses
-returns-in_err-starts-clause-refuses g c = passed_memory (CanRefuseRows c.args.mapping.now) c.from_residual.result c.from_residual.ensures.1 tt
+returns-in_err-starts-clause-refuses g c = passed_memory (CanRefuseRows c.args.mapping.now c.args.arena.now) c.from_residual.result c.from_residual.ensures.1 tt
 
 pub returns-in_err-starts-clause-step : goal.returns-in_err-starts-clause-step
 returns-in_err-starts-clause-step g c = passed_on c.from_residual.ensures.1 no_memory

@@ -49,7 +49,7 @@ pub returns-clause-step : goal.returns-clause-step
 returns-clause-step g c = each_end (load_from c.args.mapping.now c.args.class c.args.keys.now) c.args.starts.now c.loop-start.start-index c.loop-start.invariant.step c.loop-start-test.false refl
 
 pub returns-in_err-load_keys-clause-refuses : goal.returns-in_err-load_keys-clause-refuses
-returns-in_err-load_keys-clause-refuses g c = passed_refusal (CanRefuseRows c.args.mapping.now) _ c.from_residual.result c.from_residual.ensures.1 c.in_err-load_keys.ensures.refuses
+returns-in_err-load_keys-clause-refuses g c = passed_refusal (CanRefuseRows c.args.mapping.now c.load_keys.new.arena) _ c.from_residual.result c.from_residual.ensures.1 c.in_err-load_keys.ensures.refuses
 
 pub load_keys-requires-clause-ready : goal.load_keys-requires-clause-ready
 load_keys-requires-clause-ready g c = c.loop-start.invariant.ready.0

@@ -19,7 +19,7 @@ pub returns-in_err-unread-clause-grows : goal.returns-in_err-unread-clause-grows
 returns-in_err-unread-clause-grows g c = grows_same c.args.arena.now c.args.arena.now refl
 
 pub returns-in_err-unread-clause-refuses : goal.returns-in_err-unread-clause-refuses
-returns-in_err-unread-clause-refuses g c = passed_memory (CanRefuseRows c.args.mapping.now) c.from_residual.result c.from_residual.ensures.1 tt
+returns-in_err-unread-clause-refuses g c = passed_memory (CanRefuseRows c.args.mapping.now c.args.arena.now) c.from_residual.result c.from_residual.ensures.1 tt
 
 pub load_unloaded-requires-clause-owners : goal.load_unloaded-requires-clause-owners
 load_unloaded-requires-clause-owners g c =

@@ -4,7 +4,7 @@ use Rattle.keeper_core.proofs.Sequence.{passed_on}
 use Rattle.load_filling.proofs.LoadedLemmas.{grows_same}
 use Rattle.load_rows.specs.Reading.{IsRowOf}
 use Rattle.load_calls.proofs.ReadLemmas.{passed_refusal, ready_stays}
-use Rattle.load_calls.proofs.RefusalLemmas.{refused_rows}
+use Rattle.load_calls.proofs.RefusalLemmas.{of_cells, refused_rows}
 use Rattle.load_batches.proofs.BatchSteps.{none_there, some_there}
 use Rattle.load_ends.proofs.ReadSteps.{keys_loaded, keys_refused, no_keys}
 use Rattle.load_calls.specs.Refusals.{CanRefuseRows}
@@ -39,7 +39,7 @@ pub returns-clause-stays : goal.returns-clause-stays
 returns-clause-stays g c = ready_stays (g.K.Keeper.moment c.args.keeper.now) (g.K.Keeper.moment c.read_keys.new.keeper) c.take_targets.result c.in_ok-rows.ensures.stays
 
 pub returns-clause-refuses : goal.returns-clause-refuses
-returns-clause-refuses g c = refused_rows c.args.mapping.now c.take_targets.result c.take_targets.ensures.refuses
+returns-clause-refuses g c = refused_rows c.args.mapping.now c.take_targets.new.arena c.take_targets.result c.take_targets.ensures.refuses
 
 pub returns-in_err-rows-clause-refuses : goal.returns-in_err-rows-clause-refuses
-returns-in_err-rows-clause-refuses g c = passed_refusal (CanRefuseRows c.args.mapping.now) _ c.from_residual.result c.from_residual.ensures.1 c.in_err-rows.ensures.refuses
+returns-in_err-rows-clause-refuses g c = passed_refusal (CanRefuseRows c.args.mapping.now c.args.arena.now) _ c.from_residual.result c.from_residual.ensures.1 (of_cells c.args.mapping.now c.args.arena.now _ c.in_err-rows.ensures.refuses)

@@ -22,7 +22,7 @@ pub returns-in_err-keys-clause-grows : goal.returns-in_err-keys-clause-grows
 returns-in_err-keys-clause-grows g c = grows_same c.args.arena.now c.args.arena.now refl
 
 pub returns-in_err-keys-clause-refuses : goal.returns-in_err-keys-clause-refuses
-returns-in_err-keys-clause-refuses g c = passed_memory (CanRefuseRows c.args.mapping.now) c.from_residual.result c.from_residual.ensures.1 tt
+returns-in_err-keys-clause-refuses g c = passed_memory (CanRefuseRows c.args.mapping.now c.args.arena.now) c.from_residual.result c.from_residual.ensures.1 tt
 
 pub load_all-requires-clause-class : goal.load_all-requires-clause-class
 load_all-requires-clause-class g c = c.requires.related.target
@@ -60,7 +60,7 @@ pub returns-in_err-fill_owners-clause-grows : goal.returns-in_err-fill_owners-cl
 returns-in_err-fill_owners-clause-grows g c = grows_filled c.args.arena.now c.load_all.new.arena c.fill_owners.new.arena c.in_ok-load_all.ensures.grows c.in_err-fill_owners.ensures.classes
 
 pub returns-in_err-fill_owners-clause-refuses : goal.returns-in_err-fill_owners-clause-refuses
-returns-in_err-fill_owners-clause-refuses g c = passed_memory (CanRefuseRows c.args.mapping.now) c.from_residual-in_err-fill_owners.result c.from_residual-in_err-fill_owners.ensures.1 tt
+returns-in_err-fill_owners-clause-refuses g c = passed_memory (CanRefuseRows c.args.mapping.now c.fill_owners.new.arena) c.from_residual-in_err-fill_owners.result c.from_residual-in_err-fill_owners.ensures.1 tt
 
 pub returns-in_err-load_all-clause-refuses : goal.returns-in_err-load_all-clause-refuses
-returns-in_err-load_all-clause-refuses g c = passed_refusal (CanRefuseRows c.args.mapping.now) _ c.from_residual-in_err-load_all.result c.from_residual-in_err-load_all.ensures.1 c.in_err-load_all.ensures.refuses
+returns-in_err-load_all-clause-refuses g c = passed_refusal (CanRefuseRows c.args.mapping.now c.load_all.new.arena) _ c.from_residual-in_err-load_all.result c.from_residual-in_err-load_all.ensures.1 c.in_err-load_all.ensures.refuses

@@ -15,4 +15,4 @@ returns-clause-step c =
     targets_taken c.args.mapping.now c.args.class c.args.rows.now c.in_ok-_objects._objects (loading c.args.arena.now c.args.notes.now) (loading c.take_rows.new.arena c.take_rows.new.notes) c.in_ok-_objects.ensures.step
 
 pub returns-in_err-_objects-clause-refuses : goal.returns-in_err-_objects-clause-refuses
-returns-in_err-_objects-clause-refuses c = passed_refusal CanRefuseRow _ c.from_residual.result c.from_residual.ensures.1 c.in_err-_objects.ensures.refuses
+returns-in_err-_objects-clause-refuses c = passed_refusal (CanRefuseRow c.args.mapping.now c.take_rows.new.arena) _ c.from_residual.result c.from_residual.ensures.1 c.in_err-_objects.ensures.refuses

@@ -51,7 +51,7 @@ pub returns-in_err-read_link-clause-grows : goal.returns-in_err-read_link-clause
 returns-in_err-read_link-clause-grows g c = grows_then c.args.arena.now c.loop-number.arena c.read_link.new.arena c.loop-number.invariant.grows c.in_err-read_link.ensures.grows
 
 pub returns-in_err-read_link-clause-refuses : goal.returns-in_err-read_link-clause-refuses
-returns-in_err-read_link-clause-refuses g c = passed_refusal (CanRefuseLoad c.args.mapping.now c.args.object) _ c.from_residual.result c.from_residual.ensures.1 c.in_err-read_link.ensures.refuses
+returns-in_err-read_link-clause-refuses g c = passed_refusal (CanRefuseLoad c.args.mapping.now c.read_link.new.arena c.args.object) _ c.from_residual.result c.from_residual.ensures.1 c.in_err-read_link.ensures.refuses
 
 pub returns-in_err-read_link-clause-shown : goal.returns-in_err-read_link-clause-shown
 returns-in_err-read_link-clause-shown g c =

@@ -43,7 +43,7 @@ returns-in_err-read_object-in-Some-clause-grows g c = grows_then c.args.arena.no
 
 pub returns-in_err-read_object-in-Some-clause-refuses : goal.returns-in_err-read_object-in-Some-clause-refuses
 returns-in_err-read_object-in-Some-clause-refuses g c =
-    passed_refusal (λ e. (e ≡ Memory) ⊎ CanRefuseReading c.args.mapping.now e) _ c.from_residual-in_err-read_object-in-Some.result c.from_residual-in_err-read_object-in-Some.ensures.1
+    passed_refusal (λ e. (e ≡ Memory) ⊎ CanRefuseReading c.args.mapping.now c.read_object.new.arena e) _ c.from_residual-in_err-read_object-in-Some.result c.from_residual-in_err-read_object-in-Some.ensures.1
     (inr (c.in-Some.object, c.in_err-read_object-in-Some.ensures.refuses))
 
 pub returns-in_err-read_object-in-Some-clause-shown : goal.returns-in_err-read_object-in-Some-clause-shown

@@ -40,7 +40,7 @@ returns-in_err-refresh-clause-shown g c =
 
 pub returns-in_err-refresh-clause-refuses : goal.returns-in_err-refresh-clause-refuses
 returns-in_err-refresh-clause-refuses g c =
-    passed_refusal (CanRefuseLoad c.args.mapping.now c.args.object) _ c.from_residual-in_err-refresh.result c.from_residual-in_err-refresh.ensures.1 (of_refresh c.args.mapping.now c.args.object _ c.in_err-refresh.ensures.refuses)
+    passed_refusal (CanRefuseLoad c.args.mapping.now c.refresh.new.arena c.args.object) _ c.from_residual-in_err-refresh.result c.from_residual-in_err-refresh.ensures.1 (of_refresh c.args.mapping.now c.args.object c.refresh.new.arena _ c.in_err-refresh.ensures.refuses)
 
 pub read_links-requires-clause-object : goal.read_links-requires-clause-object
 read_links-requires-clause-object g c =

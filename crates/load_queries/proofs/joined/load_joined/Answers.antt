@@ -4,8 +4,9 @@ use Rattle.class_mapping.specs.Mapped.{IsClass}
 use Rattle.keeper_core.proofs.Sequence.{no_memory, passed_on}
 use Rattle.load_filling.proofs.LoadedLemmas.{grows_same}
 use Rattle.load_calls.proofs.ReadLemmas.{passed_memory, passed_refusal, passed_stays, ready_stays}
-use Rattle.load_calls.specs.Refusals.{CanRefuseRows}
-use Rattle.load_calls.proofs.RefusalLemmas.{refused_rows}
+use Rattle.load_calls.specs.Refusals.{CanRefuseQuery}
+use Rattle.load_calls.proofs.RefusalLemmas.{refused_rows_of_query, select_of_query}
+use Rattle.main_selects.specs.MainSelect.{main_select}
 use Rattle.load_queries.specs.Joined.{IsPartOf}
 use Rattle.load_queries.proofs.AnswerSteps.{joined_loaded, joined_refused, rows_of_parts}
 use Rattle.load_queries.proofs.joined.load_joined.Goals as goal
@@ -20,7 +21,7 @@ pub returns-in_err-parts-clause-grows : goal.returns-in_err-parts-clause-grows
 returns-in_err-parts-clause-grows g c = grows_same c.args.arena.now c.args.arena.now refl
 
 pub returns-in_err-parts-clause-refuses : goal.returns-in_err-parts-clause-refuses
-returns-in_err-parts-clause-refuses g c = passed_memory (CanRefuseRows c.args.mapping.now) c.from_residual.result c.from_residual.ensures.1 tt
+returns-in_err-parts-clause-refuses g c = passed_memory (CanRefuseQuery c.args.mapping.now c.args.arena.now (main_select c.args.mapping.now c.args.query.now)) c.from_residual.result c.from_residual.ensures.1 tt
 
 pub returns-in_err-rows-clause-step : goal.returns-in_err-rows-clause-step
 returns-in_err-rows-clause-step g c =
@@ -30,10 +31,10 @@ pub returns-in_err-rows-clause-grows : goal.returns-in_err-rows-clause-grows
 returns-in_err-rows-clause-grows g c = grows_same c.args.arena.now c.args.arena.now refl
 
 pub returns-in_err-rows-clause-refuses : goal.returns-in_err-rows-clause-refuses
-returns-in_err-rows-clause-refuses g c = passed_refusal (CanRefuseRows c.args.mapping.now) _ c.from_residual-in_err-rows.result c.from_residual-in_err-rows.ensures.1 c.in_err-rows.ensures.refuses
+returns-in_err-rows-clause-refuses g c = passed_refusal (CanRefuseQuery c.args.mapping.now c.args.arena.now (main_select c.args.mapping.now c.args.query.now)) _ c.from_residual-in_err-rows.result c.from_residual-in_err-rows.ensures.1 (select_of_query c.args.mapping.now (main_select c.args.mapping.now c.args.query.now) c.args.arena.now _ c.in_err-rows.ensures.refuses)
 
 pub take_answers-requires-clause-targets : goal.take_answers-requires-clause-targets
-take_answers-requires-clause-targets g c = subst (All (λ part. IsClass c.args.mapping.now part.target)) (sym c.as_slice.ensures) c.in_ok-parts.ensures.targets
+take_answers-requires-clause-targets g c = subst (All (λ part. IsClass c.args.mapping.now part.target)) (sym c.as_slice.ensures) (c.in_ok-parts.ensures.targets c.in_ok-rows.ensures.related)
 
 pub take_answers-requires-clause-parts : goal.take_answers-requires-clause-parts
 take_answers-requires-clause-parts g c = subst (All (IsPartOf c.args.mapping.now c.args.query.now.class)) (sym c.as_slice.ensures) c.in_ok-parts.ensures.of
@@ -51,4 +52,4 @@ pub returns-clause-stays : goal.returns-clause-stays
 returns-clause-stays g c = ready_stays (g.K.Keeper.moment c.args.keeper.now) (g.K.Keeper.moment c.read_rows.new.keeper) c.take_answers.result c.in_ok-rows.ensures.stays
 
 pub returns-clause-refuses : goal.returns-clause-refuses
-returns-clause-refuses g c = refused_rows c.args.mapping.now c.take_answers.result c.take_answers.ensures.refuses
+returns-clause-refuses g c = refused_rows_of_query c.args.mapping.now (main_select c.args.mapping.now c.args.query.now) c.take_answers.new.arena c.take_answers.result c.take_answers.ensures.refuses

@@ -1,7 +1,9 @@
 use Rattle.std.proofs.Common.{◌≡◌, ◌<◌, length, List, subst, sym}
 use Rattle.std.specs.List.{All}
 use Rattle.base_core.specs.declared.ids.RelNo.{RelNo}
-use Rattle.class_mapping.specs.Mapped.{relations_of}
+use Rattle.class_mapping.specs.Mapped.{IsClass, relations_of}
+use Rattle.class_mapping.specs.Related.{AreRelated}
+use Rattle.load_calls.proofs.ReadLemmas.{told_of}
 use Rattle.load_queries.proofs.AnswerSteps.{parts_told, seen_parts, targets_told}
 use Rattle.load_queries.proofs.joined.parts_of_query.Goals as goal
 
@@ -17,4 +19,5 @@ returns-clause-of c = parts_told c.args.mapping.now c.args.query.now.class c.arg
 
 pub returns-clause-targets : goal.returns-clause-targets
 returns-clause-targets c =
-    targets_told c.args.mapping.now c.args.query.now.class c.args.query.now.joined c.parts_of.result c.schema.ensures.configured.related c.requires.class c.requires.options (returns-clause-parts c)
+    told_of (AreRelated c.args.mapping.now) (All (λ part. IsClass c.args.mapping.now part.target)) c.parts_of.result
+    (λ related. targets_told c.args.mapping.now c.args.query.now.class c.args.query.now.joined c.parts_of.result related c.requires.class c.requires.options (returns-clause-parts c))

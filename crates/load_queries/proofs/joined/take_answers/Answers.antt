@@ -17,7 +17,7 @@ returns-in_err-taken-clause-step c =
     (answers_refused c.args.mapping.now c.args.class c.args.parts.now c.args.rows.now (loading c.args.arena.now c.args.notes.now) (loading c.take_joined.new.arena c.take_joined.new.notes) _ c.in_err-taken.ensures.step)
 
 pub returns-in_err-taken-clause-refuses : goal.returns-in_err-taken-clause-refuses
-returns-in_err-taken-clause-refuses c = passed_refusal CanRefuseRow _ c.from_residual.result c.from_residual.ensures.1 c.in_err-taken.ensures.refuses
+returns-in_err-taken-clause-refuses c = passed_refusal (CanRefuseRow c.args.mapping.now c.take_joined.new.arena) _ c.from_residual.result c.from_residual.ensures.1 c.in_err-taken.ensures.refuses
 
 pub fill_taken-requires-clause-taken : goal.fill_taken-requires-clause-taken
 fill_taken-requires-clause-taken c = subst (All (IsTaken c.args.mapping.now c.take_joined.new.arena.roots c.args.class c.args.parts.now)) (sym c.as_slice.ensures) c.in_ok-taken.ensures.of
@@ -40,4 +40,4 @@ pub returns-in_err-fill_taken-clause-grows : goal.returns-in_err-fill_taken-clau
 returns-in_err-fill_taken-clause-grows c = grows_filled c.args.arena.now c.take_joined.new.arena c.fill_taken.new.arena c.in_ok-taken.ensures.grows c.in_err-fill_taken.ensures.classes
 
 pub returns-in_err-fill_taken-clause-refuses : goal.returns-in_err-fill_taken-clause-refuses
-returns-in_err-fill_taken-clause-refuses c = passed_memory CanRefuseRow c.from_residual-in_err-fill_taken.result c.from_residual-in_err-fill_taken.ensures.1 tt
+returns-in_err-fill_taken-clause-refuses c = passed_memory (CanRefuseRow c.args.mapping.now c.fill_taken.new.arena) c.from_residual-in_err-fill_taken.result c.from_residual-in_err-fill_taken.ensures.1 tt

@@ -17,14 +17,14 @@ pub related-relation-requires-clause-class : goal.related-relation-requires-clau
 related-relation-requires-clause-class g c = (c.object.ensures.fits c.args.mapping.now c.requires.fit).class
 
 pub related-relation-requires-clause-place : goal.related-relation-requires-clause-place
-related-relation-requires-clause-place g c =
+related-relation-requires-clause-place g c = λ paired.
     subst (λ (o : Object). c.args.place.0 < length (relations_of c.args.mapping.now o.class)) (sym c.object.ensures.is)
-    (owner_under c.args.mapping.now c.args.arena.now c.requires.owners.class c.args.place c.in-Some.first c.schema.ensures.configured.hierarchies.paired c.requires.owners.within
+    (owner_under c.args.mapping.now c.args.arena.now c.requires.owners.class c.args.place c.in-Some.first paired c.requires.owners.within
     (first_of (IsOwnerOf c.args.mapping.now c.args.arena.now c.requires.owners.class) c.args.owners.now c.in-Some.first (sym c.first_of.ensures ∙ c.in-Some.is) c.requires.owners.each)).within
 
 pub load_together-requires-clause-owners : goal.load_together-requires-clause-owners
 load_together-requires-clause-owners g c =
-    named_owners c.args.mapping.now c.args.arena.now c.args.place c.args.owners.now c.in-Some.first c.related-relation.result.now c.schema.ensures.configured.hierarchies.paired c.requires.owners
+    named_owners c.args.mapping.now c.args.arena.now c.args.place c.args.owners.now c.in-Some.first c.related-relation.result.now c.related-relation.ensures.paired c.requires.owners
     (sym c.first_of.ensures ∙ c.in-Some.is) (c.related-relation.ensures.is ∙ ap (λ (o : Object). relation_of c.args.mapping.now o.class c.args.place) c.object.ensures.is)
 
 pub returns-in-Some-clause-step : goal.returns-in-Some-clause-step

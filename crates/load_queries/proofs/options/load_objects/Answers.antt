@@ -6,7 +6,8 @@ use Rattle.class_mapping.specs.Mapped.{root_of}
 use Rattle.object_arena.specs.Graph.{IsObject}
 use Rattle.keeper_core.proofs.Sequence.{passed_on}
 use Rattle.load_calls.proofs.RowsLemmas.{grows_then}
-use Rattle.load_calls.specs.Refusals.{CanRefuseRows}
+use Rattle.load_calls.specs.Refusals.{CanRefuseQuery}
+use Rattle.load_calls.proofs.RefusalLemmas.{rows_of_query}
 use Rattle.load_calls.proofs.ReadLemmas.{passed_refusal, passed_still, stays_then, still_then}
 use Rattle.load_rows.proofs.LinkLemmas.{are_made}
 use Rattle.load_queries.specs.Selectin.{IsOption}
@@ -18,7 +19,7 @@ pub returns-in_err-objects-clause-step : goal.returns-in_err-objects-clause-step
 returns-in_err-objects-clause-step g c = passed_on c.from_residual.ensures.1 (objects_refused g.K.Keeper.moment c.args.mapping.now c.args.query.now _ c.in_err-objects.ensures.step)
 
 pub returns-in_err-objects-clause-refuses : goal.returns-in_err-objects-clause-refuses
-returns-in_err-objects-clause-refuses g c = passed_refusal (CanRefuseRows c.args.mapping.now) _ c.from_residual.result c.from_residual.ensures.1 c.in_err-objects.ensures.refuses
+returns-in_err-objects-clause-refuses g c = passed_refusal (CanRefuseQuery c.args.mapping.now c.load_select.new.arena c.args.query.now.select) _ c.from_residual.result c.from_residual.ensures.1 c.in_err-objects.ensures.refuses
 
 pub load_options-requires-clause-objects : goal.load_options-requires-clause-objects
 load_options-requires-clause-objects g c =
@@ -38,7 +39,7 @@ returns-in_err-load_options-clause-grows g c = grows_then c.args.arena.now c.loa
 
 pub returns-in_err-load_options-clause-refuses : goal.returns-in_err-load_options-clause-refuses
 returns-in_err-load_options-clause-refuses g c =
-    passed_refusal (CanRefuseRows c.args.mapping.now) _ c.from_residual-in_err-load_options.result c.from_residual-in_err-load_options.ensures.1 c.in_err-load_options.ensures.refuses
+    passed_refusal (CanRefuseQuery c.args.mapping.now c.load_options.new.arena c.args.query.now.select) _ c.from_residual-in_err-load_options.result c.from_residual-in_err-load_options.ensures.1 (rows_of_query c.args.mapping.now c.args.query.now.select c.load_options.new.arena _ c.in_err-load_options.ensures.refuses)
 
 pub returns-clause-step : goal.returns-clause-step
 returns-clause-step g c =

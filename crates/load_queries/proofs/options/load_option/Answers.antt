@@ -17,7 +17,10 @@ pub returns-in_err-owners-clause-grows : goal.returns-in_err-owners-clause-grows
 returns-in_err-owners-clause-grows g c = grows_same c.args.arena.now c.args.arena.now refl
 
 pub returns-in_err-owners-clause-refuses : goal.returns-in_err-owners-clause-refuses
-returns-in_err-owners-clause-refuses g c = passed_memory (CanRefuseRows c.args.mapping.now) c.from_residual.result c.from_residual.ensures.1 tt
+returns-in_err-owners-clause-refuses g c = passed_memory (CanRefuseRows c.args.mapping.now c.args.arena.now) c.from_residual.result c.from_residual.ensures.1 tt
+
+pub related-relation-requires-clause-place : goal.related-relation-requires-clause-place
+related-relation-requires-clause-place g c = λ paired. c.requires.place
 
 pub load_together-requires-clause-owners : goal.load_together-requires-clause-owners
 load_together-requires-clause-owners g c =

@@ -42,7 +42,7 @@ pub returns-clause-step : goal.returns-clause-step
 returns-clause-step g c = each_end (load_option c.args.mapping.now c.args.class c.args.objects.now) c.args.places.now c.loop-place.place-index c.loop-place.invariant.step c.loop-place-test.false refl
 
 pub returns-in_err-load_option-clause-refuses : goal.returns-in_err-load_option-clause-refuses
-returns-in_err-load_option-clause-refuses g c = passed_refusal (CanRefuseRows c.args.mapping.now) _ c.from_residual.result c.from_residual.ensures.1 c.in_err-load_option.ensures.refuses
+returns-in_err-load_option-clause-refuses g c = passed_refusal (CanRefuseRows c.args.mapping.now c.load_option.new.arena) _ c.from_residual.result c.from_residual.ensures.1 c.in_err-load_option.ensures.refuses
 
 pub load_option-requires-clause-ready : goal.load_option-requires-clause-ready
 load_option-requires-clause-ready g c = c.loop-place.invariant.ready.0

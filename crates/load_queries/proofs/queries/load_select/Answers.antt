@@ -4,9 +4,9 @@ use Rattle.keeper_core.proofs.Sequence.{passed_on}
 use Rattle.load_filling.proofs.LoadedLemmas.{grows_same}
 use Rattle.load_rows.specs.Reading.{IsRowOf}
 use Rattle.load_calls.proofs.ReadLemmas.{passed_refusal, ready_stays}
-use Rattle.load_calls.proofs.RefusalLemmas.{refused_rows}
+use Rattle.load_calls.proofs.RefusalLemmas.{refused_rows_of_query, select_of_query}
 use Rattle.load_queries.proofs.QuerySteps.{query_loaded, query_refused}
-use Rattle.load_calls.specs.Refusals.{CanRefuseRows}
+use Rattle.load_calls.specs.Refusals.{CanRefuseQuery}
 use Rattle.load_queries.proofs.queries.load_select.Goals as goal
 
 pub returns-in_err-rows-clause-step : goal.returns-in_err-rows-clause-step
@@ -26,7 +26,7 @@ pub returns-clause-stays : goal.returns-clause-stays
 returns-clause-stays g c = ready_stays (g.K.Keeper.moment c.args.keeper.now) (g.K.Keeper.moment c.read_rows.new.keeper) c.take_objects.result c.in_ok-rows.ensures.stays
 
 pub returns-clause-refuses : goal.returns-clause-refuses
-returns-clause-refuses g c = refused_rows c.args.mapping.now c.take_objects.result c.take_objects.ensures.refuses
+returns-clause-refuses g c = refused_rows_of_query c.args.mapping.now c.args.query.now.select c.take_objects.new.arena c.take_objects.result c.take_objects.ensures.refuses
 
 pub returns-in_err-rows-clause-refuses : goal.returns-in_err-rows-clause-refuses
-returns-in_err-rows-clause-refuses g c = passed_refusal (CanRefuseRows c.args.mapping.now) _ c.from_residual.result c.from_residual.ensures.1 c.in_err-rows.ensures.refuses
+returns-in_err-rows-clause-refuses g c = passed_refusal (CanRefuseQuery c.args.mapping.now c.args.arena.now c.args.query.now.select) _ c.from_residual.result c.from_residual.ensures.1 (select_of_query c.args.mapping.now c.args.query.now.select c.args.arena.now _ c.in_err-rows.ensures.refuses)

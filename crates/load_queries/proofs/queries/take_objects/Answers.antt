@@ -31,7 +31,7 @@ returns-clause-of c =
     firsts_told (λ object. is_of_root c.take_rows.new.arena.roots (root_of c.args.mapping.now c.args.class) object ≡ true) c.in_ok-objects.objects c.as_slice.result.now (Ok c.in_ok-firsts.field-0) c.as_slice.ensures c.in_ok-objects.ensures.of c.in_ok-firsts.ensures
 
 pub returns-in_err-firsts-clause-refuses : goal.returns-in_err-firsts-clause-refuses
-returns-in_err-firsts-clause-refuses c = passed_memory CanRefuseRow c.from_residual-in_err-firsts.result c.from_residual-in_err-firsts.ensures.1 tt
+returns-in_err-firsts-clause-refuses c = passed_memory (CanRefuseRow c.args.mapping.now c.take_rows.new.arena) c.from_residual-in_err-firsts.result c.from_residual-in_err-firsts.ensures.1 tt
 
 pub returns-in_err-objects-clause-refuses : goal.returns-in_err-objects-clause-refuses
-returns-in_err-objects-clause-refuses c = passed_refusal CanRefuseRow _ c.from_residual.result c.from_residual.ensures.1 c.in_err-objects.ensures.refuses
+returns-in_err-objects-clause-refuses c = passed_refusal (CanRefuseRow c.args.mapping.now c.take_rows.new.arena) _ c.from_residual.result c.from_residual.ensures.1 c.in_err-objects.ensures.refuses

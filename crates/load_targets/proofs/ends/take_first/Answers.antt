@@ -9,7 +9,7 @@ use Rattle.load_calls.proofs.ReadLemmas.{passed_refusal}
 use Rattle.load_calls.specs.Refusals.{CanRefuseRow}
 use Rattle.load_calls.proofs.RefusalLemmas.{row_refuses}
 use Rattle.load_calls.proofs.RowsLemmas.{object_of}
-use Rattle.load_targets.proofs.EndLemmas.{first_refused, first_taken, none_first}
+use Rattle.load_targets.proofs.EndLemmas.{first_refused, first_row, first_taken, none_first}
 use Rattle.load_targets.proofs.ends.take_first.Goals as goal
 
 pub returns-in_err-object-in-Some-clause-step : goal.returns-in_err-object-in-Some-clause-step
@@ -35,5 +35,7 @@ returns-in-None-clause-grows c = grows_same c.args.arena.now c.args.arena.now re
 
 pub returns-in_err-object-in-Some-clause-refuses : goal.returns-in_err-object-in-Some-clause-refuses
 returns-in_err-object-in-Some-clause-refuses c =
-    passed_refusal CanRefuseRow _ c.from_residual.result c.from_residual.ensures.1
-    (row_refuses c.args.mapping.now c.args.class c.as_slice.result.now (loading c.args.arena.now c.args.notes.now) (loading c.take_row.new.arena c.take_row.new.notes) _ c.in_err-object-in-Some.ensures.step)
+    passed_refusal (CanRefuseRow c.args.mapping.now c.take_row.new.arena) _ c.from_residual.result c.from_residual.ensures.1
+    (row_refuses c.args.mapping.now c.args.class c.as_slice.result.now (loading c.args.arena.now c.args.notes.now) (loading c.take_row.new.arena c.take_row.new.notes) _
+    (first_row c.args.mapping.now c.args.class c.args.rows.now c.as_slice.result.now c.requires.rows (sym c.get.ensures ∙ ap option_copied c.in-Some.is ∙ ap (λ (row : List Value). Some row) (sym c.as_slice.ensures)))
+    c.in_err-object-in-Some.ensures.step)

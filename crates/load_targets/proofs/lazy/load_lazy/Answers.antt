@@ -25,11 +25,11 @@ returns-clause-step g c =
     (ap (λ (r : Relation). r.many) (sym (c.relation_at-relation.ensures.is ∙ ap (λ (o : Object). relation_of c.args.mapping.now o.class c.args.place) c.object.ensures.is)) ∙ c.if-relation.false) c.load_target.ensures.step
 
 pub returns-then-relation-clause-refuses : goal.returns-then-relation-clause-refuses
-returns-then-relation-clause-refuses g c = refused_load c.args.mapping.now c.args.object c.load_collection.result c.load_collection.ensures.refuses
+returns-then-relation-clause-refuses g c = refused_load c.args.mapping.now c.args.object c.load_collection.new.arena c.load_collection.result c.load_collection.ensures.refuses
 
 pub returns-then-relation-clause-shown : goal.returns-then-relation-clause-shown
 returns-then-relation-clause-shown g c =
-    refused_show c.args.mapping.now c.args.object (loading c.args.arena.now c.args.notes.now, g.K.Keeper.moment c.args.keeper.now) (loading c.load_collection.new.arena c.load_collection.new.notes, g.K.Keeper.moment c.load_collection.new.keeper) c.load_collection.result
+    refused_show c.args.mapping.now c.args.object (loading c.args.arena.now c.args.notes.now, g.K.Keeper.moment c.args.keeper.now) (loading c.load_collection.new.arena c.load_collection.new.notes, g.K.Keeper.moment c.load_collection.new.keeper) c.load_collection.new.arena c.load_collection.result
     c.load_collection.ensures.refuses
 
 pub returns-clause-shown : goal.returns-clause-shown

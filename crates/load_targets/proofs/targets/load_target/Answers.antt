@@ -103,14 +103,14 @@ returns-in_err-fill_end-clause-grows g c = grows_then c.args.arena.now c.read_ta
 
 pub returns-in_err-refresh_key-clause-refuses : goal.returns-in_err-refresh_key-clause-refuses
 returns-in_err-refresh_key-clause-refuses g c =
-    passed_refusal (CanRefuseLoad c.args.mapping.now c.args.child) _ c.from_residual.result c.from_residual.ensures.1 (of_refresh c.args.mapping.now c.args.child _ c.in_err-refresh_key.ensures.refuses)
+    passed_refusal (CanRefuseLoad c.args.mapping.now c.refresh_key.new.arena c.args.child) _ c.from_residual.result c.from_residual.ensures.1 (of_refresh c.args.mapping.now c.args.child c.refresh_key.new.arena _ c.in_err-refresh_key.ensures.refuses)
 
 pub returns-in_err-end-clause-refuses : goal.returns-in_err-end-clause-refuses
 returns-in_err-end-clause-refuses g c =
-    passed_refusal (CanRefuseLoad c.args.mapping.now c.args.child) _ c.from_residual-in_err-end.result c.from_residual-in_err-end.ensures.1 (of_rows c.args.mapping.now c.args.child _ c.in_err-end.ensures.refuses)
+    passed_refusal (CanRefuseLoad c.args.mapping.now c.read_target.new.arena c.args.child) _ c.from_residual-in_err-end.result c.from_residual-in_err-end.ensures.1 (of_rows c.args.mapping.now c.args.child c.read_target.new.arena _ c.in_err-end.ensures.refuses)
 
 pub returns-in_err-fill_end-clause-refuses : goal.returns-in_err-fill_end-clause-refuses
-returns-in_err-fill_end-clause-refuses g c = passed_memory (CanRefuseLoad c.args.mapping.now c.args.child) c.from_residual-in_err-fill_end.result c.from_residual-in_err-fill_end.ensures.1 tt
+returns-in_err-fill_end-clause-refuses g c = passed_memory (CanRefuseLoad c.args.mapping.now c.fill_end.new.arena c.args.child) c.from_residual-in_err-fill_end.result c.from_residual-in_err-fill_end.ensures.1 tt
 
 pub returns-in_err-refresh_key-clause-shown : goal.returns-in_err-refresh_key-clause-shown
 returns-in_err-refresh_key-clause-shown g c =
@@ -119,7 +119,7 @@ returns-in_err-refresh_key-clause-shown g c =
 
 pub returns-in_err-end-clause-shown : goal.returns-in_err-end-clause-shown
 returns-in_err-end-clause-shown g c =
-    passed_show c.args.mapping.now c.args.child (loading c.args.arena.now c.args.notes.now, g.K.Keeper.moment c.args.keeper.now) (loading c.read_target.new.arena c.read_target.new.notes, g.K.Keeper.moment c.read_target.new.keeper) _
+    passed_show c.args.mapping.now c.args.child (loading c.args.arena.now c.args.notes.now, g.K.Keeper.moment c.args.keeper.now) (loading c.read_target.new.arena c.read_target.new.notes, g.K.Keeper.moment c.read_target.new.keeper) c.read_target.new.arena _
     c.from_residual-in_err-end.result c.from_residual-in_err-end.ensures.1 c.in_err-end.ensures.refuses
 
 pub returns-in_err-fill_end-clause-shown : goal.returns-in_err-fill_end-clause-shown

@@ -19,4 +19,4 @@ pub returns-clause-step : goal.returns-clause-step
 returns-clause-step g c = target_read g.K.Keeper.moment c.args.mapping.now c.args.relation.now c.args.child c.args.arena.now c.in_ok-key.key c.in_ok-key.ensures.key c.find_or_load.ensures.step
 
 pub returns-in_err-key-clause-refuses : goal.returns-in_err-key-clause-refuses
-returns-in_err-key-clause-refuses g c = passed_memory (CanRefuseRows c.args.mapping.now) c.from_residual.result c.from_residual.ensures.1 tt
+returns-in_err-key-clause-refuses g c = passed_memory (CanRefuseRows c.args.mapping.now c.args.arena.now) c.from_residual.result c.from_residual.ensures.1 tt

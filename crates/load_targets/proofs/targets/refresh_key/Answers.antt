@@ -12,14 +12,14 @@ returns-in_err-attrs-clause-step g c = passed_on c.from_residual.ensures.1 no_me
 pub returns-then-not-is_expired_among-clause-step : goal.returns-then-not-is_expired_among-clause-step
 returns-then-not-is_expired_among-clause-step g c =
     key_held g.K.Keeper.moment c.args.mapping.now c.args.relation.now c.args.child c.args.arena.now
-    (expired_is c.args.mapping.now c.args.relation.now c.args.arena.now c.args.child c.object-record.result.now c.in_ok-attrs.attrs c.is_expired_among.result c.object-record.ensures.is c.in_ok-attrs.ensures
+    (expired_is c.args.mapping.now c.args.relation.now c.args.arena.now c.args.child c.object-record.result.now c.in_ok-attrs.attrs c.is_expired_among.result c.object-record.ensures.is c.in_ok-attrs.ensures.attrs
     (asked_by c.as_slice.result.now c.in_ok-attrs.attrs c.object-record.result.now c.is_expired_among.result c.as_slice.ensures c.is_expired_among.ensures)
     ∙ c.if-not-is_expired_among.true)
 
 pub returns-clause-step : goal.returns-clause-step
 returns-clause-step g c =
     key_refreshed g.K.Keeper.moment c.args.mapping.now c.args.relation.now c.args.child c.args.arena.now
-    (expired_is c.args.mapping.now c.args.relation.now c.args.arena.now c.args.child c.object-record.result.now c.in_ok-attrs.attrs c.is_expired_among.result c.object-record.ensures.is c.in_ok-attrs.ensures
+    (expired_is c.args.mapping.now c.args.relation.now c.args.arena.now c.args.child c.object-record.result.now c.in_ok-attrs.attrs c.is_expired_among.result c.object-record.ensures.is c.in_ok-attrs.ensures.attrs
     (asked_by c.as_slice.result.now c.in_ok-attrs.attrs c.object-record.result.now c.is_expired_among.result c.as_slice.ensures c.is_expired_among.ensures)
     ∙ c.if-not-is_expired_among.false)
     c.refresh.ensures.step

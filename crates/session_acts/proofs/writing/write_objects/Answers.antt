@@ -7,6 +7,7 @@ use Rattle.session_calls.proofs.Joining.{passed_call}
 use Rattle.session_calls.proofs.Refusing.{passed_on}
 use Rattle.session_acts.specs.Outcome.{IsFlushCause, IsUntouched, IsWriteCause, IsWritten, changes_of}
 use Rattle.session_acts.proofs.Outcomes.{as_flushed, memory_cause, untouched_early}
+use Rattle.session_acts.proofs.Ready.{none_clearable}
 use Rattle.session_acts.proofs.Steps.{no_room_alike, objects_written}
 use Rattle.session_acts.proofs.writing.write_objects.Goals as goal
 
@@ -40,7 +41,7 @@ write_warned-requires g c = record {
   inside = c.requires.inside;
   range = c.in_ok-rows.ensures.range;
   ready = subst (AreReady c.args.session.now.mapping.schema c.in_ok-rows.rows) (sym c.as_slice.ensures.value) c.in_ok-rows.ensures.ready;
-  cleared = ap (λ (p : Prepared). p.cleared) c.in_ok-prepared.ensures.prepared;
+  clearable = none_clearable c.args.session.now.mapping c.args.session.now.graph c.in_ok-prepared.prepared (ap (λ (p : Prepared). p.cleared) c.in_ok-prepared.ensures.prepared);
 }
 
 pub returns-clause-call : goal.returns-clause-call

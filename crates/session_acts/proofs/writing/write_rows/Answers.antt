@@ -1,5 +1,6 @@
-use Rattle.std.proofs.Common.{Ok, Err, refl, ap, ◌∙◌}
+use Rattle.std.proofs.Common.{Ok, Err, refl, sym, ap, ◌∙◌, subst}
 use Rattle.base_core.specs.declared.refusal.Refusal.TheVariants.{Memory}
+use Rattle.graph_flushed.specs.Fitting.{AreClearable}
 use Rattle.session_scopes.specs.SessionState.{SessionState}
 use Rattle.session_calls.proofs.Joining.{passed_call}
 use Rattle.session_calls.proofs.Refusing.{passed_on}
@@ -44,6 +45,10 @@ pub returns-in_err-keys-clause-cause : goal.returns-in_err-keys-clause-cause
 returns-in_err-keys-clause-cause g c =
     passed_on (λ e. IsWriteCause c.args.session.now.mapping.schema c.args.rows.now (g.K.Keeper.moment c.args.keeper.now) e (g.K.Keeper.moment c.send_plan.new.keeper)) c.from_residual-in_err-keys.result c.from_residual-in_err-keys.ensures.1
     (run_cause c.args.session.now.mapping.schema c.args.rows.now c.in_ok-statements.statements c.in_err-keys.field-0.0 (g.K.Keeper.moment c.args.keeper.now) (g.K.Keeper.moment c.send_plan.new.keeper) c.in_ok-statements.ensures c.in_err-keys.ensures.cause)
+
+-- the objects change
+pub step-requires : goal.step-requires
+step-requires g c = subst (λ (s : SessionState). AreClearable s.mapping s.graph c.args.prepared.now) (sym c.in_ok-keys.ensures.alike) c.requires.clearable
 
 -- memory ran out as the objects changed
 pub returns-in_err-step-clause-call : goal.returns-in_err-step-clause-call

@@ -15,8 +15,8 @@ returns-in_err-objects-clause-done c =
 pub returns-in_err-objects-clause-same : goal.returns-in_err-objects-clause-same
 returns-in_err-objects-clause-same c = same_itself c.args.session.now
 
-pub coming_fault-requires-clause-once : goal.coming_fault-requires-clause-once
-coming_fault-requires-clause-once c = subst (AreOnce c.args.session.now.graph) (sym c.as_slice-coming.ensures) c.in_ok-objects.ensures.once
+pub conflict_fault-requires : goal.conflict_fault-requires
+conflict_fault-requires c = record { once = subst (AreOnce c.args.session.now.graph) (sym c.as_slice-coming.ensures) c.in_ok-objects.ensures.once }
 
 pub returns-in-Some-clause-done : goal.returns-in-Some-clause-done
 returns-in-Some-clause-done c =

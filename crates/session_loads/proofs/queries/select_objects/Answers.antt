@@ -5,7 +5,7 @@ use Rattle.session_calls.specs.Steps.{pending_fault}
 use Rattle.session_calls.proofs.Joining.{err_call, passed_call, then_call}
 use Rattle.session_calls.proofs.Refusing.{call_calm, passed_on}
 use Rattle.session_loads.specs.Queries.{load_query, select_objects}
-use Rattle.session_loads.specs.Refusals.{IsRefusedLoading, IsRefusedRows, Unflushed, no_fault}
+use Rattle.session_loads.specs.Refusals.{IsRefusedLoading, IsRefusedQuery, Unflushed, no_fault}
 use Rattle.session_loads.proofs.RefusedLemmas.{flushed_refused}
 use Rattle.session_loads.proofs.queries.select_objects.Goals as goal
 
@@ -16,7 +16,7 @@ returns-in_err-flush_now-clause-call g c = passed_call c.from_residual.ensures.1
 pub returns-in_err-flush_now-clause-refused : goal.returns-in_err-flush_now-clause-refused
 returns-in_err-flush_now-clause-refused g c =
     passed_on
-    (λ e. IsRefusedLoading (pending_fault c.args.session.now) None no_fault IsRefusedRows c.args.session.now (g.K.Keeper.moment c.args.keeper.now) e c.flush_now.new.session (g.K.Keeper.moment c.flush_now.new.keeper))
+    (λ e. IsRefusedLoading (pending_fault c.args.session.now) None no_fault (IsRefusedQuery c.args.query.now) c.args.session.now (g.K.Keeper.moment c.args.keeper.now) e c.flush_now.new.session (g.K.Keeper.moment c.flush_now.new.keeper))
     c.from_residual.result c.from_residual.ensures.1 (Unflushed c.in_err-flush_now.ensures.refused)
 
 pub load-requires : goal.load-requires
@@ -35,5 +35,5 @@ returns-clause-made g c = c.load.ensures.found
 
 pub returns-clause-refused : goal.returns-clause-refused
 returns-clause-refused g c =
-    flushed_refused IsRefusedRows (pending_fault c.args.session.now) None no_fault c.args.session.now c.flush_now.new.session c.load.new.session (g.K.Keeper.moment c.args.keeper.now) (g.K.Keeper.moment c.flush_now.new.keeper)
+    flushed_refused (IsRefusedQuery c.args.query.now) (pending_fault c.args.session.now) None no_fault c.args.session.now c.flush_now.new.session c.load.new.session (g.K.Keeper.moment c.args.keeper.now) (g.K.Keeper.moment c.flush_now.new.keeper)
     (g.K.Keeper.moment c.load.new.keeper) c.load.result c.in_ok-flush_now.ensures.flushed (call_calm c.in_ok-flush_now.ensures.call) c.load.ensures.refused

@@ -3,7 +3,7 @@ use Rattle.base_core.specs.declared.refusal.Refusal.TheVariants.{Memory}
 use Rattle.session_calls.specs.Steps.{pending_fault}
 use Rattle.session_calls.proofs.Refusing.{passed_on}
 use Rattle.session_links.specs.declared.reading.Related.TheVariants.{Many}
-use Rattle.session_loads.specs.Refusals.{IsRefusedRows, no_fault}
+use Rattle.session_loads.specs.Refusals.{IsRefusedQuery, no_fault}
 use Rattle.command_names.specs.Standing.{IsOfDeclared, IsThere}
 use Rattle.command_resolve.specs.declared.resolved.Resolved.TheVariants as resolved
 use Rattle.session_perform.specs.Refused.{IsRefusedLine}
@@ -30,5 +30,5 @@ returns-in_err-objects-clause-refused g c = λ rules.
 
 pub returns-in_err-thing-clause-refused : goal.returns-in_err-thing-clause-refused
 returns-in_err-thing-clause-refused g c = λ rules.
-    full_reading (pending_fault c.args.session.now) None no_fault IsRefusedRows c.args.session.now c.select_objects.new.session (g.K.Keeper.moment c.args.keeper.now) (g.K.Keeper.moment c.select_objects.new.keeper) c.from_residual-in_err-thing.result
+    full_reading (pending_fault c.args.session.now) None no_fault (IsRefusedQuery c.args.query.now) c.args.session.now c.select_objects.new.session (g.K.Keeper.moment c.args.keeper.now) (g.K.Keeper.moment c.select_objects.new.keeper) c.from_residual-in_err-thing.result
     (passed_on (λ e. e ≡ Memory) c.from_residual-in_err-thing.result c.from_residual-in_err-thing.ensures.1 refl)

@@ -1,7 +1,8 @@
-use Rattle.std.proofs.Common.{Ok, Err, refl, ap, subst}
+use Rattle.std.proofs.Common.{Ok, Err, refl, subst}
+use Rattle.base_core.specs.declared.refusal.Refusal.TheVariants.{Memory}
 use Rattle.keeper_core.proofs.Lifting.{acts_answering}
 use Rattle.keeper_core.proofs.Sequence.{done, then_ok}
-use Rattle.keeper_core.specs.Programs.{Run, ends_early, give, ◌>>=◌}
+use Rattle.keeper_core.specs.Programs.{Run, give, ◌>>=◌}
 use Rattle.keeper_core.specs.Beside.{Beside}
 use Rattle.shell_steps.specs.ShellState.{ShellState}
 use Rattle.sqla_shell.specs.Outcome.{HasWritten}
@@ -21,8 +22,7 @@ after_writing u = close_and_tell >>= after_closing
 -- src/script.rt:124:17
 pub returns-in_err-reply-clause-step : goal.returns-in_err-reply-clause-step
 unfolding end_script
-returns-in_err-reply-clause-step g c = answer_stopped g.K.Keeper.moment g.O.Sink.written g.met.K.Keeper.coherent (λ e. e) (λ reply. writes reply >>= after_writing) c.args.sink.now c.in_err-reply.field-0.0 c.from_residual.result
-    (ap ends_early c.in_err-reply.ensures.cause) c.from_residual.ensures.1 c.in_err-reply.ensures.step
+returns-in_err-reply-clause-step g c = answer_stopped g.K.Keeper.moment g.O.Sink.written g.met.K.Keeper.coherent (λ e. e) (λ reply. writes reply >>= after_writing) c.args.sink.now Memory c.from_residual.result refl c.from_residual.ensures.1 c.in_err-reply.ensures.step
 
 -- src/script.rt:125:5
 pub returns-in_err-write_all-clause-step : goal.returns-in_err-write_all-clause-step
@@ -48,7 +48,7 @@ returns-clause-step g c = then_ok (λ reply. writes reply >>= after_writing) (on
     (then_ok after_closing c.in_ok-close.ensures.step (done refl)))
 
 pub returns-in_err-reply-clause-keeps : goal.returns-in_err-reply-clause-keeps
-returns-in_err-reply-clause-keeps g c = shell_stopped (ap ends_early c.in_err-reply.ensures.cause) c.from_residual.ensures.1 (acts_answering g.K.Keeper.moment c.in_err-reply.ensures.step)
+returns-in_err-reply-clause-keeps g c = shell_stopped {e = Memory} refl c.from_residual.ensures.1 (acts_answering g.K.Keeper.moment c.in_err-reply.ensures.step)
 
 pub returns-in_err-write_all-clause-keeps : goal.returns-in_err-write_all-clause-keeps
 returns-in_err-write_all-clause-keeps g c = keeps_passed {X = Unit {0}} c.from_residual-in_err-write_all.ensures.1 (sink_wrote c.in_err-write_all.ensures.faults)

@@ -1,7 +1,7 @@
 use Rattle.std.proofs.Common.{ap, inr, sym, ◌∙◌}
 use Rattle.session_scopes.specs.SessionState.{SessionState}
 use Rattle.session_scopes.proofs.GrownLemmas.{session_grown}
-use Rattle.session_scopes.proofs.LoadLemmas.{early_taken, load_kept, load_shown, loaded, loaded_early, loaded_ran_out, loaded_refused, lost_kept, refused_ran_out, seen}
+use Rattle.session_scopes.proofs.LoadLemmas.{early_taken, load_kept, load_may, load_shown, loaded, loaded_early, loaded_ran_out, loaded_refused, lost_kept, refused_ran_out, seen}
 use Rattle.session_scopes.proofs.session.Session.load.Goals as goal
 
 pub invariant_of-self : goal.invariant_of-self
@@ -35,6 +35,9 @@ returns-then-ends_early-clause-step g c = let moment = g.K.Keeper.moment in let 
 pub returns-then-ends_early-clause-kept : goal.returns-then-ends_early-clause-kept
 returns-then-ends_early-clause-kept g c = load_kept c.self.view_is c.requires.in_step.1 c.in-Err.ensures.grows c.take_in-noted.ensures.rest c.take_in-noted.ensures.scopes c.in-Err.ensures.depth
 
+pub returns-then-ends_early-clause-refuses : goal.returns-then-ends_early-clause-refuses
+returns-then-ends_early-clause-refuses g c = inr (load_may (g.L.ObjectLoad.can_refuse c.args.load) c.self.view_is (sym (ap (λ (s : SessionState). s.graph) c.take_in-noted.ensures.rest)) c.in-Err.ensures.refuses)
+
 pub returns-then-ends_early-clause-shown : goal.returns-then-ends_early-clause-shown
 returns-then-ends_early-clause-shown g c =
     inr (load_shown (g.L.ObjectLoad.is_shown c.args.load) c.self.view_is c.new-notes.ensures (sym (ap (λ (s : SessionState). s.graph) c.take_in-noted.ensures.rest)) (early_taken c.in-Err.refusal (sym c.ends_early.ensures ∙ c.if-ends_early.true)) c.in-Err.ensures.shown)
@@ -48,6 +51,9 @@ returns-in-Ok-noted-2-clause-step g c = let moment = g.K.Keeper.moment in let pr
 
 pub returns-in-Ok-noted-2-clause-kept : goal.returns-in-Ok-noted-2-clause-kept
 returns-in-Ok-noted-2-clause-kept g c = load_kept c.self.view_is c.requires.in_step.1 c.in-Err.ensures.grows c.in-Ok-noted-2.ensures.rest c.in-Ok-noted-2.ensures.scopes c.in-Err.ensures.depth
+
+pub returns-in-Ok-noted-2-clause-refuses : goal.returns-in-Ok-noted-2-clause-refuses
+returns-in-Ok-noted-2-clause-refuses g c = inr (load_may (g.L.ObjectLoad.can_refuse c.args.load) c.self.view_is (sym (ap (λ (s : SessionState). s.graph) c.in-Ok-noted-2.ensures.rest)) c.in-Err.ensures.refuses)
 
 pub returns-in-Ok-noted-2-clause-shown : goal.returns-in-Ok-noted-2-clause-shown
 returns-in-Ok-noted-2-clause-shown g c =

@@ -1,11 +1,5 @@
-use Rattle.std.proofs.Common.{refl}
-use Rattle.base_core.specs.declared.refusal.Refusal.TheVariants.{Memory}
-use Rattle.shell_steps.proofs.Replying.{notes_kept_view, notes_lost, notes_told_view}
+use Rattle.shell_steps.proofs.Replying.{notes_kept_view, notes_told_view}
 use Rattle.shell_steps.proofs.shell.Shell.tell_notes.Goals as goal
-
-pub returns-in_err-told-clause-step : goal.returns-in_err-told-clause-step
-returns-in_err-told-clause-step c =
-    notes_lost c.args.reply c.args.self.now Memory c.from_residual.result c.from_residual.ensures.1 refl
 
 pub invariant_of-self : goal.invariant_of-self
 invariant_of-self c = c.forget_notes.ensures.kept.bound c.self.inside.names c.self.invariant
