@@ -36,11 +36,11 @@ SQL_WORDS = set(
     "and or not like ilike in between is exists null true false where order group having limit offset join left on from "
     "as by asc desc distinct count sum min max lower upper length coalesce set values insert update delete".split())
 # Refusals that this language alone has: SQLAlchemy has no such lines, or takes them.
-OWN = ("ScriptError", "NotBuilt", "TypeMismatch", "ArgumentError", "LimitReached", "CompileError")
+OWN = ("ScriptError", "TypeMismatch", "ArgumentError", "LimitReached", "CompileError")
 OWN_KINDS = ("Unknown", "WrongKind", "NotGrouped", "DuplicateFrom", "NotConfigured", "Configured", "InTransaction",
              "KeyChange", "Discriminator", "BadOwner", "BadMember", "JoinedLimit")
 # Lines that this language refuses while a failed flush waits for its rollback, though they may send nothing.
-PENDING = ("add", "set", "append", "remove", "delete", "show", "flush", "get", "related", "refresh")
+PENDING = ("add", "set", "append", "remove", "delete", "expunge", "expire", "show", "flush", "get", "related", "refresh")
 OBJECT = re.compile(r"\b(\w+)@(\??\d+)")
 MARK = "?"  # A line that no script may have: its refusal tells where the answers of the lines before it end.
 
@@ -281,6 +281,12 @@ class Player:
             raise Refused("InvalidRequestError(NotPersistent)")
         self.session.delete(it)
 
+    def do_expunge(self, words):
+        self.session.expunge(self.object(words))
+
+    def do_expire(self, words):
+        self.session.expire(self.object(words))
+
     def do_refresh(self, words):
         self.session.refresh(self.object(words))
 
@@ -426,7 +432,8 @@ def refusal_of(fault, player):
         return type(fault).__name__
     if isinstance(fault, exc.InvalidRequestError) and text.startswith("Could not refresh instance"):
         return "ObjectDeletedError"
-    for kind, part in (("NotPersistent", "is not persisted"), ("NotPersistent", "is not persistent within this Session"), ("Deleted", "has been deleted"),
+    for kind, part in (("NotPersistent", "is not persisted"), ("NotPersistent", "is not persistent within this Session"), ("NotInSession", "is not present in this Session"),
+                       ("Deleted", "has been deleted"),
                        ("IdentityConflict", "already present in this session")):
         if isinstance(fault, exc.InvalidRequestError) and part in text:
             return "InvalidRequestError(%s)" % kind

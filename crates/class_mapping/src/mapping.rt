@@ -7,7 +7,8 @@ ghost use Rattle.schema_core.specs.Catalog.{IsTable};
 ghost use Rattle.class_mapping.specs.Configured.{IsConfigured, IsLaid};
 ghost use Rattle.class_mapping.specs.Mapped.{IsAttribute, IsClass, attributes_of, class_spec, find_class, key_attributes, layout_of, line_of, parent_of, partner_of, relations_of, root_of, root_table, tables_of, validators_of};
 ghost use Rattle.class_mapping.specs.PlainClass.{ArePlain, IsPlainClass};
-ghost use Rattle.class_mapping.specs.Paired.{HasPairs};
+ghost use Rattle.base_core.specs.declared.ids.ClassId.{ClassId};
+ghost use Rattle.class_mapping.specs.Paired.{HasPairs, is_at_or_under};
 ghost use Rattle.class_mapping.specs.Related.{AreRelated};
 
 use crate::lookup::{before_last, class_or, table_or_none};
@@ -111,12 +112,14 @@ impl Mapping {
         self.classes.specs.at(class.0 as usize)
     }
 
-    /// The class without a base at the head of a class's hierarchy.
+    /// The class without a base at the head of a class's hierarchy, which is that of each class under it too.
     pub fn root_of(&self, class: ClassId) -> ClassId
         requires { IsClass self.now class }
         ensures class { result ≡ root_of self.now class }
         ensures declared { IsClass self.now result }
         ensures alone { (class_spec self.now result).base ≡ None }
+        ensures rooted { (other : ClassId) → is_at_or_under self.now other class ≡ true
+            → root_of self.now other ≡ result }
     {
         class_or(root_in(line_of(&self.classes, class.0 as usize)), class)
     }

@@ -144,6 +144,8 @@ resolve mapped names (line.Related name term member) = resolved_related mapped n
 resolve mapped names (line.BeginNested name) = Ok (resolved.BeginNested name)
 resolve mapped names (line.Add term) = id_of_term names term >>= λ object. Ok (resolved.Add object)
 resolve mapped names (line.Delete term) = id_of_term names term >>= λ object. Ok (resolved.Delete object)
+resolve mapped names (line.Expunge term) = id_of_term names term >>= λ object. Ok (resolved.Expunge object)
+resolve mapped names (line.Expire term) = id_of_term names term >>= λ object. Ok (resolved.Expire object)
 resolve mapped names (line.Refresh term) = id_of_term names term >>= λ object. Ok (resolved.Refresh object)
 resolve mapped names (line.Show term) = resolved_thing names term
 resolve mapped names (line.ShowMember term member) = resolved_show mapped names term member

@@ -45,6 +45,10 @@ pub enum Resolved {
     ChangeLink(ObjId, RelNo, LinkCall),
     Add(ObjId),
     Delete(ObjId),
+    /// An object is to leave the session.
+    Expunge(ObjId),
+    /// An object is to be expired.
+    Expire(ObjId),
     /// An object is to be read anew.
     Refresh(ObjId),
     /// No savepoint is shown.

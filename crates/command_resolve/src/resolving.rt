@@ -256,6 +256,8 @@ pub fn resolve(
         Command::BeginNested(name) => Ok(Resolved::BeginNested(name.copied()?)),
         Command::Add(term) => Ok(Resolved::Add(id_of_term(names, term)?)),
         Command::Delete(term) => Ok(Resolved::Delete(id_of_term(names, term)?)),
+        Command::Expunge(term) => Ok(Resolved::Expunge(id_of_term(names, term)?)),
+        Command::Expire(term) => Ok(Resolved::Expire(id_of_term(names, term)?)),
         Command::Refresh(term) => Ok(Resolved::Refresh(id_of_term(names, term)?)),
         Command::Show(term) => resolved_thing(alloc, names, term),
         Command::ShowMember(term, member) => resolved_show(mapping, names, term, member),

@@ -13,7 +13,6 @@ use crate::flushing::Flushing;
 use base_core::{Copied, Key, ListOf, ObjId};
 use graph_flushed::{keeps_links, kept_cells, kept_links, prepared_links};
 use object_arena::{Cell, Object, State};
-use object_rows::is_among;
 use std::alloc::{AllocError, Global};
 
 /// Whether another object was found.
@@ -230,7 +229,7 @@ impl<'a> Flushing<'a> {
             (written_of self.now) object
             (object_at self.now.projection.now.arena.now object)) }
     {
-        if is_among(&self.projection.prepared.deleted, object) {
+        if self.projection.prepared.deleted.has(object) {
             return self.deleted_object(alloc, object);
         }
         self.staying_object(alloc, object)
@@ -293,7 +292,7 @@ impl<'a> Flushing<'a> {
     {
         match self.projection.arena.state_of(object) {
             State::Persistent => {
-                if is_among(&self.projection.prepared.deleted, object) {
+                if self.projection.prepared.deleted.has(object) {
                     return Ok(false);
                 }
                 self.keeps_object(object)

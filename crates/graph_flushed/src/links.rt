@@ -2,25 +2,14 @@
 
 ghost use Rattle.std.specs.Prelude.{◌≡◌, map, IfOk, IsTrue};
 ghost use Rattle.std.specs.List.{enumerate_from};
-ghost use Rattle.object_rows.specs.Seen.{is_cleared};
 ghost use Rattle.graph_flushed.specs.Flushed as spec;
 
 use base_core::{Copied, ListOf, ObjId, RelNo};
 use class_layouts::number_of;
 use object_arena::Link;
 use object_parts::kept_link;
-use object_rows::Prepared;
+use object_rows::{Prepared, is_cleared};
 use std::alloc::{AllocError, Global};
-
-/// Whether an object's link is to become none.
-fn is_cleared(prepared: &Prepared, object: ObjId, relation: RelNo) -> bool
-    ensures { result ≡ is_cleared prepared.now object relation }
-{
-    let cleared = prepared.cleared.as_slice();
-    cleared
-        .iter()
-        .any(|link| link.0.0 == object.0 && link.1.0 == relation.0)
-}
 
 /// A link of a prepared graph, where it may be one that becomes none.
 fn prepared_link(is_cleared: bool, link: &Link) -> Result<Link, AllocError>

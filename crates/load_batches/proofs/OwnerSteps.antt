@@ -1,5 +1,5 @@
 -- The owners of collections, with the keys of their rows.
-use Rattle.std.proofs.Common.{◌≡◌, ℕ, ◌+◌, ◌<◌, Bool, true, List, [], ◌∷◌, ◌++◌, length, get_or, drop, fold, Result, Ok, Err, OnOk, if◌then◌else◌, sym, ap, subst, ◌∙◌, append_assoc}
+use Rattle.std.proofs.Common.{◌≡◌, ℕ, ◌+◌, ◌<◌, true, List, [], ◌∷◌, ◌++◌, length, get_or, drop, fold, Result, Ok, Err, OnOk, sym, ap, subst, ◌∙◌, append_assoc}
 use Rattle.std.specs.List.{All, flat_map}
 use Rattle.std.proofs.lemmas.List.{drop_more}
 use Rattle.std.proofs.lemmas.List.Elements.{All-drop, All-from_recursion, All-take, recursion_from_All}
@@ -7,7 +7,6 @@ use Rattle.base_core.proofs.Lists.{every_append}
 use Rattle.base_core.specs.declared.ids.ClassId.{ClassId}
 use Rattle.base_core.specs.declared.ids.ObjId.{ObjId}
 use Rattle.base_core.specs.declared.ids.RelNo.{RelNo}
-use Rattle.base_core.specs.declared.value.Value.{Value}
 use Rattle.schema_core.specs.WellFormed.{is_key}
 use Rattle.class_types.specs.declared.mapped.Relation.{Relation}
 use Rattle.class_mapping.specs.Mapped.{IsClass, Mapped, relations_of, root_spec}
@@ -19,10 +18,9 @@ use Rattle.object_arena.specs.Graph.{Graph, object_at}
 use Rattle.object_arena.specs.Identity.{is_identified}
 use Rattle.load_filling.specs.Growing.{Grows}
 use Rattle.load_rows.specs.Reading.{identity_key}
-use Rattle.load_rows.specs.Links.{link_at}
 use Rattle.load_calls.proofs.RefreshLemmas.{own_key_fits}
 use Rattle.load_calls.proofs.CollectionLemmas.{class_there, owner_key, owner_there, related_at, same_relation}
-use Rattle.load_batches.specs.Batches.{IsKeyed, IsOwned, IsOwner, batch_at, batch_size, is_unloaded, unloaded_owner, with_key}
+use Rattle.load_batches.specs.Batches.{IsKeyed, IsOwned, IsOwner, batch_at, batch_size, with_key}
 use Rattle.load_batches.specs.declared.owners.Owner.{Owner}
 
 -- a persistent owner has a key of its class's root's table
@@ -45,17 +43,6 @@ owner_keyed mapped graph relation place object own owner fits is identity =
 pub owned_told : (mapped : Mapped) (graph : Graph) (relation : Relation) (place : RelNo) (object : ObjId) (found : Owner) → found ≡ with_key graph object → IsOwned mapped graph relation place (with_key graph object) → IsOwned mapped graph relation place found
 owned_told mapped graph relation place object found is owned = subst (IsOwned mapped graph relation place) (sym is) owned
 
-pub owner_is : (graph : Graph) (object : ObjId) (key : List Value) → key ≡ identity_key graph object → let found : Owner = record { object = object; key = key } in found ≡ with_key graph object
-owner_is graph object key is = ap (λ (k : List Value). let found : Owner = record { object = object; key = k } in found) is
-
--- one owner more
-pub owner_pushed : {E : Type 0} (graph : Graph) (place : RelNo) (object : ObjId) (found : Owner) (owners new : List Owner) (b : Bool) (r : Result (Unit {0}) E) → b ≡ is_unloaded (link_at graph object place) → b ≡ true → found ≡ with_key graph object
-    → OnOk r (new ≡ owners ++ found ∷ []) → OnOk r (new ≡ owners ++ unloaded_owner graph place object)
-owner_pushed graph place object found owners new b (Ok u) asked so is pushed =
-    pushed ∙ ap (λ (one : Owner). owners ++ one ∷ []) is
-    ∙ ap (λ (c : Bool). owners ++ (if c then with_key graph object ∷ [] else [])) (sym (sym asked ∙ so))
-owner_pushed graph place object found owners new b (Err e) asked so is pushed = tt
-
 pub owned_more : {A E : Type 0} (P : A → Type 0) (found : A) (owners new : List A) (r : Result (Unit {0}) E) → P found → OnOk r (new ≡ owners ++ found ∷ []) → All P owners → OnOk r (All P new)
 owned_more P found owners new (Ok u) one pushed all =
     subst (All P) (sym pushed) (All-from_recursion P (owners ++ found ∷ []) (every_append P owners (found ∷ []) (recursion_from_All P owners all) (one, tt)))
@@ -63,6 +50,11 @@ owned_more P found owners new (Err e) one pushed all = tt
 
 pub no_owners : {A : Type 0} (P : A → Type 0) (owners : List A) → owners ≡ [] → All P owners
 no_owners P owners none = subst (All P) (sym none) (All-from_recursion P [] tt)
+
+-- ---- one of several
+
+pub one_at : {A : Type 0} (P : A → Type 0) (xs : List A) (i : ℕ) (x : A) → i < length xs → x ≡ get_or xs i x → All P xs → P x
+one_at P xs i x less is all = subst P (sym is) (all i x less)
 
 -- ---- as objects are made
 

@@ -230,7 +230,7 @@ pub fn load_members<K: Keeper>(
     ensures fits { IsFit mapping.now arena.new }
     ensures refuses { IfErr result (CanRefuseRows mapping.now arena.new) }
 {
-    let unloaded = unloaded_owners(alloc, &*arena, mapping, relation, place, owners)?;
+    let unloaded = unloaded_owners(alloc, &*arena, place, owners)?;
     load_batches(
         alloc,
         arena,

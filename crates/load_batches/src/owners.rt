@@ -1,17 +1,17 @@
 //! Owners with the keys of their rows.
 
-ghost use Rattle.std.specs.Prelude.{◌≡◌, ◌++◌, ◌<◌, length, IfOk, OnOk};
+ghost use Rattle.std.specs.Prelude.{◌≡◌, ◌++◌, IfOk, OnOk};
 ghost use Rattle.std.specs.List.{All};
-ghost use Rattle.class_mapping.specs.Mapped.{relations_of};
+ghost use Rattle.class_types.specs.declared.mapped.Relation.{Relation};
+ghost use Rattle.class_mapping.specs.Mapped.{Mapped};
 ghost use Rattle.object_arena.specs.Fit.{IsFit};
-ghost use Rattle.object_arena.specs.Graph.{IsObject, object_at};
-ghost use Rattle.load_rows.specs.Links.{link_at};
+ghost use Rattle.object_arena.specs.Graph.{IsObject};
+ghost use Rattle.load_rows.specs.Links.{link_in};
 ghost use Rattle.load_batches.specs.Batches as spec;
 
 use base_core::{Copied, Key, KeyList, ListOf, ObjId, RelNo};
-use class_mapping::{Mapping, Relation};
 use load_rows::identity_key;
-use object_arena::Arena;
+use object_arena::{Arena, Object};
 use std::alloc::{AllocError, Global};
 
 /// An owner of a collection, and the key of its row.
@@ -22,34 +22,20 @@ pub struct Owner {
 }
 
 /// Whether the link of an object at a place is to be read.
-pub fn is_unloaded(arena: &Arena, mapping: &Mapping, object: ObjId, place: RelNo) -> bool
-    requires fit { IsFit mapping.now arena.now }
-    requires object { IsObject arena.now object }
-    requires place { place.0 < length (relations_of mapping.now (object_at arena.now object).class) }
-    ensures { result ≡ spec.is_unloaded (link_at arena.now object place) }
+pub fn is_unloaded(object: &Object, place: RelNo) -> bool
+    ensures { result ≡ spec.is_unloaded (link_in object.now.links place) }
 {
-    let _ = mapping;
-    object_parts::is_unloaded(arena.object(object).links.at(place.0 as usize))
+    match object.links.get(place.0 as usize) {
+        Some(link) => object_parts::is_unloaded(link),
+        None => false,
+    }
 }
 
-/// A persistent owner with the key of its row.
-fn with_key(
-    alloc: Global,
-    arena: &Arena,
-    mapping: &Mapping,
-    relation: &Relation,
-    place: RelNo,
-    owner: ObjId,
-) -> Result<Owner, AllocError>
-    requires fit { IsFit mapping.now arena.now }
-    requires owner { spec.IsOwner mapping.now arena.now relation.now place owner }
-    ensures owner { IfOk result (λ o. o ≡ spec.with_key arena.now owner) }
-    ensures owned { IfOk result (spec.IsOwned mapping.now arena.now relation.now place) }
+/// An owner with the key of its row.
+fn with_key(alloc: Global, arena: &Arena, owner: ObjId) -> Result<Owner, AllocError>
+    requires { IsObject arena.now owner }
+    ensures { IfOk result (λ o. o ≡ spec.with_key arena.now owner) }
 {
-    let _ = mapping;
-    let _ = place;
-    let _ = arena.object(owner);
-    let _ = relation;
     let key = identity_key(alloc, arena, owner)?;
     Ok(Owner { object: owner, key })
 }
@@ -59,22 +45,21 @@ fn push_unloaded(
     out: &mut ListOf<Owner>,
     alloc: Global,
     arena: &Arena,
-    mapping: &Mapping,
-    relation: &Relation,
     place: RelNo,
     owner: ObjId,
 ) -> Result<(), AllocError>
-    requires fit { IsFit mapping.now arena.now }
-    requires owner { spec.IsOwner mapping.now arena.now relation.now place owner }
+    requires { IsObject arena.now owner }
     ensures owners { OnOk result
         (out.new ≡ out.old ++ spec.unloaded_owner arena.now place owner) }
-    ensures owned { All (spec.IsOwned mapping.now arena.now relation.now place) out.old
-        → OnOk result (All (spec.IsOwned mapping.now arena.now relation.now place) out.new) }
+    ensures owned { (mapped : Mapped) (relation : Relation) → IsFit mapped arena.now
+        → spec.IsOwner mapped arena.now relation place owner
+        → All (spec.IsOwned mapped arena.now relation place) out.old
+        → OnOk result (All (spec.IsOwned mapped arena.now relation place) out.new) }
 {
-    if !is_unloaded(arena, mapping, owner, place) {
+    if !is_unloaded(arena.object(owner), place) {
         return Ok(());
     }
-    out.push(with_key(alloc, arena, mapping, relation, place, owner)?)
+    out.push(with_key(alloc, arena, owner)?)
 }
 
 /// The owners whose link at a place is unloaded, with their keys.
@@ -82,21 +67,19 @@ fn push_unloaded(
 pub(crate) fn unloaded_owners(
     alloc: Global,
     arena: &Arena,
-    mapping: &Mapping,
-    relation: &Relation,
     place: RelNo,
     owners: &[ObjId],
 ) -> Result<ListOf<Owner>, AllocError>
-    requires fit { IsFit mapping.now arena.now }
-    requires owners { All (spec.IsOwner mapping.now arena.now relation.now place) owners.now }
+    requires { All (IsObject arena.now) owners.now }
     ensures owners { IfOk result
         (λ found. found ≡ spec.unloaded_owners arena.now place owners.now) }
-    ensures owned { IfOk result
-        (All (spec.IsOwned mapping.now arena.now relation.now place)) }
+    ensures owned { (mapped : Mapped) (relation : Relation) → IsFit mapped arena.now
+        → All (spec.IsOwner mapped arena.now relation place) owners.now
+        → IfOk result (All (spec.IsOwned mapped arena.now relation place)) }
 {
     let mut found = ListOf::new(alloc);
     for owner in owners {
-        push_unloaded(&mut found, alloc, arena, mapping, relation, place, *owner)?;
+        push_unloaded(&mut found, alloc, arena, place, *owner)?;
     }
     Ok(found)
 }

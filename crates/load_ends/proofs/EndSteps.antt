@@ -1,7 +1,9 @@
 -- Links that lead to what the identity map has.
-use Rattle.std.proofs.Common.{◌≡◌, ◌<◌, Bool, true, false, List, length, Option, None, Result, Ok, Err, OnOk, if◌then◌else◌, sym, ap, subst, ◌∙◌}
-use Rattle.std.specs.List.{All}
+use Rattle.std.proofs.Common.{◌≡◌, ◌<◌, Bool, true, false, List, [], ◌∷◌, length, Option, None, Result, Ok, Err, OnOk, if◌then◌else◌, sym, ap, subst, ◌∙◌}
+use Rattle.std.specs.List.{All, AllByRecursion, flat_map}
 use Rattle.std.specs.Option.{option_and_then}
+use Rattle.std.proofs.lemmas.List.Elements.{All-from_recursion, recursion_from_All}
+use Rattle.base_core.proofs.Lists.{every_append}
 use Rattle.base_core.specs.declared.ids.ClassId.{ClassId}
 use Rattle.base_core.specs.declared.ids.ObjId.{ObjId}
 use Rattle.base_core.specs.declared.ids.RelNo.{RelNo}
@@ -18,10 +20,27 @@ use Rattle.keeper_core.proofs.AloneLemmas.{change_ok}
 use Rattle.keeper_core.proofs.Sequence.{reaches_start}
 use Rattle.load_filling.specs.Growing.{Grows}
 use Rattle.load_rows.specs.Loading.{Loading}
-use Rattle.load_rows.specs.Links.{end_filled}
+use Rattle.load_rows.specs.Links.{end_filled, link_at}
 use Rattle.load_calls.proofs.CollectionLemmas.{class_there, owner_there, same_relation}
 use Rattle.load_targets.specs.Targets.{if_of}
-use Rattle.load_ends.specs.Ends.{IsChild, end_known, fill_owner, fill_owners, key_of, known_end}
+use Rattle.load_batches.specs.Batches.{is_unloaded}
+use Rattle.load_ends.specs.Ends.{IsChild, end_known, fill_owner, fill_owners, if_unloaded, key_of, known_end, unloaded}
+
+-- ---- owners
+
+-- what is so of all is so of those whose link is unloaded
+pub unloaded_all : (P : ObjId → Type 0) (graph : Graph) (place : RelNo) (owners : List ObjId) → All P owners → All P (unloaded graph place owners)
+unfolding unloaded
+unloaded_all P graph place owners all = All-from_recursion P (flat_map (if_unloaded graph place) owners) (each owners (recursion_from_All P owners all))
+  where
+    where_so : (b : Bool) (object : ObjId) → P object → AllByRecursion P (if b then object ∷ [] else [])
+    where_so true object one = (one, tt)
+    where_so false object one = tt
+
+    each : (objects : List ObjId) → AllByRecursion P objects → AllByRecursion P (flat_map (if_unloaded graph place) objects)
+    each [] so = tt
+    each (object ∷ objects) so =
+        every_append P (if_unloaded graph place object) (flat_map (if_unloaded graph place) objects) (where_so (is_unloaded (link_at graph object place)) object so.0) (each objects so.1)
 
 -- ---- what the identity map has
 

@@ -245,7 +245,7 @@ pub fn load_ends<K: Keeper>(
     ensures fits { IsFit mapping.now arena.new }
     ensures refuses { IfErr result (CanRefuseRows mapping.now arena.new) }
 {
-    let unread = unloaded(alloc, &*arena, mapping, relation, place, owners)?;
+    let unread = unloaded(alloc, &*arena, place, owners)?;
     load_unloaded(
         alloc,
         arena,

@@ -5,7 +5,7 @@ ghost use Rattle.std.specs.List.{position};
 ghost use Rattle.std.specs.Option.{option_copied};
 ghost use Rattle.base_core.specs.Answers.{Takes};
 ghost use Rattle.class_mapping.specs.Mapped.{IsClass, root_of};
-ghost use Rattle.class_mapping.specs.Paired.{HasPairs, is_at_or_under};
+ghost use Rattle.class_mapping.specs.Paired.{is_at_or_under};
 ghost use Rattle.object_arena.specs.Fit.{IsFit};
 ghost use Rattle.object_arena.specs.Graph.{IsObject, root_at};
 ghost use Rattle.relations.specs.Parents.{is_column};
@@ -113,21 +113,6 @@ fn found_under(mapping: &Mapping, class: ClassId, found: Option<&Value>) -> Opti
     None
 }
 
-/// The class of a branch that has an identity, if there is one.
-fn found_at_or_under(mapping: &Mapping, class: ClassId, found: Option<&Value>) -> Option<ClassId>
-    requires { IsClass mapping.now class }
-    ensures named { result ≡ find (spec.has_identity mapping.now (option_copied found.entry))
-        (branches.branch mapping.now class) }
-    ensures declared { IfSome result (IsClass mapping.now) }
-    ensures rooted { HasPairs mapping.now
-        → IfSome result (λ named. root_of mapping.now named ≡ root_of mapping.now class) }
-{
-    if has_identity(mapping, found, class) {
-        return Some(class);
-    }
-    found_under(mapping, class, found)
-}
-
 /// The class of the branch that a row names, if it names one: the class itself where its hierarchy has no discriminator.
 #[tactic(auto, unfolding(crate::specs::Rows::class_named))]
 pub fn class_named(mapping: &Mapping, class: ClassId, values: &[Value]) -> Option<ClassId>
@@ -137,14 +122,15 @@ pub fn class_named(mapping: &Mapping, class: ClassId, values: &[Value]) -> Optio
     ensures rooted { IfSome result
         (λ named. root_of mapping.now named ≡ root_of mapping.now class) }
 {
-    let _configured = mapping.schema();
     let root = mapping.root_of(class);
-    match &mapping.spec_of(root).discriminator {
-        Some(name) => {
-            found_at_or_under(mapping, class, value_named(mapping, class, values, name))
-        }
-        None => Some(class),
+    let Some(name) = &mapping.spec_of(root).discriminator else {
+        return Some(class);
+    };
+    let found = value_named(mapping, class, values, name);
+    if has_identity(mapping, found, class) {
+        return Some(class);
     }
+    found_under(mapping, class, found)
 }
 
 /// The object that stands for a row: the one that the identity map has for the row's key, or one that is made, of the class that

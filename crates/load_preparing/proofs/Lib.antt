@@ -1,2 +1,2 @@
 mod CellLemmas
-mod ReadingLemmas
+pub mod ReadingLemmas

@@ -15,8 +15,8 @@ fn say_number(page: &mut Page, number: u32) {
     page.push(digit)
 }
 
-fn say_objects(page: &mut Page, objects: &ObjList) {
-    for object in objects.as_slice() {
+fn say_objects(page: &mut Page, objects: &[ObjId]) {
+    for object in objects {
         say_number(page, object.0);
     }
 }
@@ -24,9 +24,9 @@ fn say_objects(page: &mut Page, objects: &ObjList) {
 /// Two lists, with a slash between them.
 fn say_both(page: &mut Page, letter: char, one: &ObjList, other: &ObjList) {
     page.push(letter);
-    say_objects(page, one);
+    say_objects(page, one.as_slice());
     page.push('/');
-    say_objects(page, other)
+    say_objects(page, other.as_slice())
 }
 
 fn say_end(page: &mut Page, end: Option<ObjId>, changed: bool) {
@@ -107,9 +107,9 @@ pub(crate) fn say_reached(objects: &ObjSet, page: &mut Page) {
 /// is to be read before, or 0.
 pub(crate) fn say_prepared(prepared: &Prepared, unread: Option<ObjId>, page: &mut Page) {
     page.put("Goes ");
-    say_objects(page, &prepared.deleted);
+    say_objects(page, prepared.deleted.as_slice());
     page.put(" drops ");
-    say_objects(page, &prepared.transient);
+    say_objects(page, prepared.transient.as_slice());
     page.put(" clears");
     for cleared in prepared.cleared.as_slice() {
         page.push(' ');

@@ -1,3 +1,4 @@
 pub mod ObjectSteps
 pub mod PlaceSteps
 pub mod Steps
+mod LinkSets

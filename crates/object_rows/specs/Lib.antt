@@ -1,5 +1,6 @@
 pub mod Cells
 pub mod Late
+pub mod Numbers
 pub mod Places
 pub mod Rows
 pub mod Seen

@@ -2,8 +2,6 @@
 use Rattle.std.specs.Prelude.{◌≡◌, ℕ, Bool, true, false, not, ◌&&◌, ◌||◌, ◌==◌, List, [], map, fold, length, slice_index_or, Option, None, Some, if◌then◌else◌}
 use Rattle.std.specs.List.{All, list_any, range_with_len}
 use Rattle.std.specs.BTreeMap.{insert_entry}
-use Rattle.std.specs.BTreeSet.{BTreeSet, contains}
-use Rattle.std.specs.Ordering.{nat_cmp}
 use Rattle.std.specs.Map.{values_of}
 use Rattle.base_core.specs.declared.ids.ObjId.{ObjId}
 use Rattle.base_core.specs.declared.ids.RelNo.{RelNo}
@@ -13,6 +11,7 @@ use Rattle.object_arena.specs.declared.object.Object.{Object}
 use Rattle.object_arena.specs.Graph.{Graph, IsObject, is_persistent, object_at, Queue, is_among, is_pending, rank_cmp}
 use Rattle.object_arena.specs.Identity.{id_of_place}
 pub use Rattle.object_parts.specs.Links.{changed_end, end_if}
+pub use Rattle.object_rows.specs.Numbers.{AreNumbers, has_link}
 use Rattle.object_rows.specs.declared.prepared.Prepared.{Prepared}
 
 -- the objects by number
@@ -29,10 +28,6 @@ keeps_rows graph prepared object = is_persistent (object_at graph object).state 
 
 abbrev pub is_in_session : Graph → Prepared → ObjId → Bool
 is_in_session graph prepared object = is_persistent (object_at graph object).state || is_new graph prepared object
-
--- a set has the numbers of the objects, and no others
-abbrev pub AreNumbers : List ObjId → BTreeSet ℕ → Type 0
-AreNumbers objects numbers = (number : ℕ) → contains nat_cmp numbers number ≡ list_any (λ (other : ObjId). other.0 == number) objects
 
 -- the objects that are to be deleted have been made
 abbrev pub AreMade : Graph → Prepared → Type 0
@@ -57,7 +52,7 @@ link_of object relation = slice_index_or object.links relation.0 Unset
 
 -- the object's link is to become none
 abbrev pub is_cleared : Prepared → ObjId → RelNo → Bool
-is_cleared prepared object relation = list_any (λ cleared. cleared.0.0 == object.0 && cleared.1.0 == relation.0) prepared.cleared
+is_cleared prepared object relation = has_link prepared.cleared object relation
 
 -- the end of an object's many-to-one link, where it was changed or is to become none
 abbrev pub end_put : Graph → Prepared → ObjId → RelNo → Option (Option ObjId)

@@ -14,8 +14,8 @@ pub use late::late_keys;
 pub use names::{kept_objects, new_names, object_ids};
 pub use places::RowNames;
 pub use prepared::Prepared;
-pub use sets::numbers_of;
+pub use sets::{LinkIndex, ObjIndex, numbers_of};
 pub use standing::{
-    end_put, identity_value, is_among, is_cleared, is_in_session, is_kept_end, is_new,
-    is_new_beside, keeps_rows, keeps_rows_beside, key_value, part_of_key,
+    end_put, identity_value, is_cleared, is_in_session, is_kept_end, is_new, keeps_rows, key_value,
+    part_of_key,
 };

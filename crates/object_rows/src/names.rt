@@ -11,13 +11,12 @@ ghost use Rattle.object_rows.specs.Seen as spec;
 
 use crate::places::RowNames;
 use crate::prepared::Prepared;
-use crate::sets::numbers_of;
-use crate::standing::{is_new_beside, keeps_rows_beside};
+use crate::standing::{is_new, keeps_rows};
 use base_core::{ObjId, RowName, TableId};
 use class_mapping::Mapping;
 use object_arena::Arena;
 use std::alloc::{AllocError, Global};
-use std::collections::{BTreeMap, BTreeSet};
+use std::collections::BTreeMap;
 
 /// The new objects by add number, and then by number.
 type Queue = BTreeMap<(u64, u32), ObjId>;
@@ -39,16 +38,14 @@ pub fn object_ids(alloc: Global, arena: &Arena) -> Result<Vec<ObjId>, AllocError
 fn put_in_queue(
     arena: &Arena,
     prepared: &Prepared,
-    transient: &BTreeSet<u32>,
     queue: &mut Queue,
     object: ObjId,
 ) -> Result<(), AllocError>
-    requires object { IsObject arena.now object }
-    requires numbers { spec.AreNumbers prepared.now.transient transient.now }
+    requires { IsObject arena.now object }
     ensures { OnOk result (queue.new.entries
         ≡ spec.with_queued arena.now prepared.now queue.old.entries object) }
 {
-    if is_new_beside(arena, prepared, transient, object) {
+    if is_new(arena, prepared, object) {
         queue.insert((arena.object(object).added, object.0), object)?;
     }
     Ok(())
@@ -60,11 +57,10 @@ fn queue(alloc: Global, arena: &Arena, prepared: &Prepared) -> Result<Queue, All
     ensures { IfOk result (λ queue. queue.entries
         ≡ fold (spec.with_queued arena.now prepared.now) [] (spec.object_ids arena.now)) }
 {
-    let transient = numbers_of(alloc, &prepared.transient)?;
     let ids = object_ids(alloc, arena)?;
     let mut queue = BTreeMap::new(alloc);
     for object in &ids {
-        put_in_queue(arena, prepared, &transient, &mut queue, *object)?;
+        put_in_queue(arena, prepared, &mut queue, *object)?;
     }
     Ok(queue)
 }
@@ -94,11 +90,10 @@ fn kept_list(alloc: Global, arena: &Arena, prepared: &Prepared) -> Result<Vec<Ob
     ensures { IfOk result (λ objects. objects.items
         ≡ filter (spec.keeps_rows arena.now prepared.now) (spec.object_ids arena.now)) }
 {
-    let deleted = numbers_of(alloc, &prepared.deleted)?;
     let ids = object_ids(alloc, arena)?;
     let mut kept = Vec::new(alloc);
     for object in &ids {
-        if keeps_rows_beside(arena, prepared, &deleted, *object) {
+        if keeps_rows(arena, prepared, *object) {
             kept.push(*object)?;
         }
     }

@@ -1,14 +1,14 @@
 //! What is decided before a flush.
 
-use base_core::{ListOf, ObjId, ObjList, RelNo};
+use crate::sets::{LinkIndex, ObjIndex};
 
 /// What the preparation of a flush decided.
 #[derive(Drop)]
 pub struct Prepared {
     /// Persistent objects that are to be deleted.
-    pub deleted: ObjList,
+    pub deleted: ObjIndex,
     /// Pending objects that are to be transient.
-    pub transient: ObjList,
+    pub transient: ObjIndex,
     /// Many-to-one links that are to become none.
-    pub cleared: ListOf<(ObjId, RelNo)>,
+    pub cleared: LinkIndex,
 }

@@ -4,16 +4,15 @@ ghost use Rattle.std.specs.Prelude.{◌≡◌, IfOk};
 ghost use Rattle.std.specs.Prelude.{slice_index_or};
 ghost use Rattle.base_core.specs.declared.value.Value.TheVariants.{Null};
 ghost use Rattle.object_arena.specs.declared.object.Link.TheVariants.{Unset};
-ghost use Rattle.object_arena.specs.Graph.{is_among, is_pending, is_persistent, object_at};
+ghost use Rattle.object_arena.specs.Graph.{is_pending, is_persistent, object_at};
 ghost use Rattle.object_rows.specs.Seen as spec;
 ghost use Rattle.object_rows.specs.Cells.{key_value};
 
 use crate::prepared::Prepared;
-use base_core::{Copied, Key, ObjId, ObjList, RelNo, Value};
+use base_core::{Copied, Key, ObjId, RelNo, Value};
 use object_arena::{Arena, Link, State};
 use object_parts::changed_end;
 use std::alloc::AllocError;
-use std::collections::BTreeSet;
 
 /// An object's state; one that has not been made is transient.
 fn state_of(arena: &Arena, object: ObjId) -> State
@@ -24,13 +23,6 @@ fn state_of(arena: &Arena, object: ObjId) -> State
         return arena.state_of(ObjId(place + 1));
     }
     State::Transient
-}
-
-/// Whether an object is among others.
-pub fn is_among(objects: &ObjList, object: ObjId) -> bool
-    ensures { result ≡ is_among objects.now object }
-{
-    objects.as_slice().iter().any(|other| other.0 == object.0)
 }
 
 fn is_pending(state: State) -> bool
@@ -49,40 +41,14 @@ fn is_persistent(state: State) -> bool
 pub fn is_new(arena: &Arena, prepared: &Prepared, object: ObjId) -> bool
     ensures { result ≡ spec.is_new arena.now prepared.now object }
 {
-    is_pending(state_of(arena, object)) && !is_among(&prepared.transient, object)
+    is_pending(state_of(arena, object)) && !prepared.transient.has(object)
 }
 
 /// Whether an object has rows, and keeps them.
 pub fn keeps_rows(arena: &Arena, prepared: &Prepared, object: ObjId) -> bool
     ensures { result ≡ spec.keeps_rows arena.now prepared.now object }
 {
-    is_persistent(state_of(arena, object)) && !is_among(&prepared.deleted, object)
-}
-
-/// Whether an object's rows are to be made, where the numbers of the objects that are to be transient are known.
-pub fn is_new_beside(
-    arena: &Arena,
-    prepared: &Prepared,
-    transient: &BTreeSet<u32>,
-    object: ObjId,
-) -> bool
-    requires { spec.AreNumbers prepared.now.transient transient.now }
-    ensures { result ≡ spec.is_new arena.now prepared.now object }
-{
-    is_pending(state_of(arena, object)) && !transient.contains(&object.0)
-}
-
-/// Whether an object has rows, and keeps them, where the numbers of the objects that are to be deleted are known.
-pub fn keeps_rows_beside(
-    arena: &Arena,
-    prepared: &Prepared,
-    deleted: &BTreeSet<u32>,
-    object: ObjId,
-) -> bool
-    requires { spec.AreNumbers prepared.now.deleted deleted.now }
-    ensures { result ≡ spec.keeps_rows arena.now prepared.now object }
-{
-    is_persistent(state_of(arena, object)) && !deleted.contains(&object.0)
+    is_persistent(state_of(arena, object)) && !prepared.deleted.has(object)
 }
 
 /// Whether an object is in the session.
@@ -106,8 +72,7 @@ pub fn is_kept_end(arena: &Arena, prepared: &Prepared, end: Option<ObjId>) -> bo
 pub fn is_cleared(prepared: &Prepared, object: ObjId, relation: RelNo) -> bool
     ensures { result ≡ spec.is_cleared prepared.now object relation }
 {
-    prepared.cleared.as_slice().iter().any(|cleared| cleared.0.0 == object.0
-        && cleared.1.0 == relation.0)
+    prepared.cleared.has(object, relation)
 }
 
 /// The end of a many-to-one link of these, where it was changed.

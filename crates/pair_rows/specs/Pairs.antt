@@ -167,9 +167,14 @@ has_row schema rows place = list_any (λ (other : GoneRow). same_place (place_of
 abbrev pub with_first : Catalog → List GoneRow → GoneRow → List GoneRow
 with_first schema rows row = if has_row schema rows (place_of_gone schema row) then rows else (rows ++ row ∷ [])
 
+-- the rows have different tables or keys
+abbrev pub differ : Catalog → GoneRow → GoneRow → Bool
+differ schema row other = not (same_place (place_of_gone schema row) (place_of_gone schema other))
+
 -- of the rows of one table and key the first
 abbrev pub first_rows : Catalog → List GoneRow → List GoneRow
-first_rows schema rows = fold (with_first schema) [] rows
+first_rows schema [] = []
+first_rows schema (row ∷ rows) = row ∷ filter (differ schema row) (first_rows schema rows)
 
 -- a set has the tables and keys of these rows
 pub record HasPlaces (schema : Catalog) (places : BTreeSet Place) (rows : List GoneRow) : Type 0 where

@@ -5,20 +5,28 @@ ghost use Rattle.pair_rows.specs.Pairs as spec;
 
 use base_core::{Copied, ListOf, ObjId, ObjList};
 use object_arena::Link;
-use object_rows::is_among;
+use object_rows::ObjIndex;
 use std::alloc::{AllocError, Global};
+
+/// The objects of a list that are not among others.
+fn outside(alloc: Global, others: &ObjIndex, objects: &ObjList) -> Result<ObjList, AllocError>
+    ensures { IfOk result (λ rest. rest ≡ spec.without others.now objects.now) }
+{
+    let mut rest = ListOf::new(alloc);
+    for object in objects.as_slice() {
+        if !others.has(*object) {
+            rest.push(*object)?;
+        }
+    }
+    Ok(rest)
+}
 
 /// The objects of a list that are not in another.
 fn without(alloc: Global, others: &ObjList, objects: &ObjList) -> Result<ObjList, AllocError>
     ensures { IfOk result (λ rest. rest ≡ spec.without others.now objects.now) }
 {
-    let mut rest = ListOf::new(alloc);
-    for object in objects.as_slice() {
-        if !is_among(others, *object) {
-            rest.push(*object)?;
-        }
-    }
-    Ok(rest)
+    let others = ObjIndex::of(alloc, others.copied()?)?;
+    outside(alloc, &others, objects)
 }
 
 /// The members that a collection was given.

@@ -6,13 +6,13 @@ ghost use Rattle.pair_rows.specs.Pairs.{has_key, is_leaving};
 
 use base_core::ObjId;
 use object_arena::{Arena, Link, Object};
-use object_rows::{Prepared, is_among};
+use object_rows::Prepared;
 
 /// Whether an object is to be deleted.
 pub fn is_leaving(prepared: &Prepared, object: ObjId) -> bool
     ensures { result ≡ is_leaving prepared.now object }
 {
-    is_among(&prepared.deleted, object)
+    prepared.deleted.has(object)
 }
 
 /// Whether an object has the key of a row.

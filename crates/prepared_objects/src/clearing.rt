@@ -4,19 +4,18 @@ ghost use Rattle.std.specs.Prelude.{◌≡◌, ◌++◌, IfOk, OnOk};
 ghost use Rattle.std.specs.List.{All};
 ghost use Rattle.object_arena.specs.Fit.{IsFit};
 ghost use Rattle.object_arena.specs.Graph.{IsObject, object_at};
-ghost use Rattle.object_rows.specs.Seen.{AreNumbers, link_of};
+ghost use Rattle.object_rows.specs.Seen.{link_of};
 ghost use Rattle.relations.specs.Mirror.{is_of};
 ghost use Rattle.prepared_objects.specs.Leaving as spec;
 
-use base_core::{ClassId, ListOf, ObjId, ObjList, RelNo};
+use base_core::{ClassId, ListOf, ObjId, RelNo};
 use class_layouts::has_class;
 use class_mapping::{Mapping, Relation};
 use object_arena::{Arena, Link, State};
 use object_parts::add_ends;
-use object_rows::numbers_of;
+use object_rows::ObjIndex;
 use pair_rows::link_or;
 use std::alloc::{AllocError, Global};
-use std::collections::BTreeSet;
 
 /// Links that become none.
 type Cleared = ListOf<(ObjId, RelNo)>;
@@ -70,22 +69,20 @@ fn member_elsewhere(arena: &Arena, owner: ObjId, member: ObjId, place: RelNo) ->
     )
 }
 
-/// Whether the link of a member of the owner's collection becomes none, where the objects of these numbers are deleted.
+/// Whether the link of a member of the owner's collection becomes none, where these objects are deleted.
 fn loses_link(
     arena: &Arena,
     mapping: &Mapping,
-    gone: &ObjList,
-    numbers: &BTreeSet<u32>,
+    gone: &ObjIndex,
     owner: ObjId,
     relation: &Relation,
     member: ObjId,
 ) -> bool
-    requires numbers { AreNumbers gone.now numbers.now }
     requires member { IsObject arena.now member }
     ensures { result
         ≡ spec.loses_link mapping.now arena.now gone.now owner relation.now member }
 {
-    !numbers.contains(&member.0)
+    !gone.has(member)
         && is_of(arena, mapping, relation.target, member)
         && loses_links(arena.state_of(member))
         && !member_elsewhere(arena, owner, member, relation.partner)
@@ -96,19 +93,17 @@ fn push_cleared(
     out: &mut Cleared,
     arena: &Arena,
     mapping: &Mapping,
-    gone: &ObjList,
-    numbers: &BTreeSet<u32>,
+    gone: &ObjIndex,
     owner: ObjId,
     relation: &Relation,
     members: &[ObjId],
 ) -> Result<(), AllocError>
-    requires numbers { AreNumbers gone.now numbers.now }
-    requires members { All (IsObject arena.now) members.now }
+    requires { All (IsObject arena.now) members.now }
     ensures { OnOk result (out.new ≡ out.old
         ++ spec.cleared_from mapping.now arena.now gone.now owner relation.now members.now) }
 {
     for member in members {
-        if loses_link(arena, mapping, gone, numbers, owner, relation, *member) {
+        if loses_link(arena, mapping, gone, owner, relation, *member) {
             out.push((*member, relation.partner))?;
         }
     }
@@ -121,14 +116,12 @@ fn push_cleared_by(
     alloc: Global,
     arena: &Arena,
     mapping: &Mapping,
-    gone: &ObjList,
-    numbers: &BTreeSet<u32>,
+    gone: &ObjIndex,
     owner: ObjId,
     number: usize,
     relation: &Relation,
 ) -> Result<(), AllocError>
     requires fit { IsFit mapping.now arena.now }
-    requires numbers { AreNumbers gone.now numbers.now }
     requires owner { IsObject arena.now owner }
     ensures { OnOk result (out.new ≡ out.old
         ++ spec.cleared_by mapping.now arena.now gone.now owner (number, relation.now)) }
@@ -148,7 +141,6 @@ fn push_cleared_by(
         arena,
         mapping,
         gone,
-        numbers,
         owner,
         relation,
         members.as_slice(),
@@ -162,21 +154,17 @@ fn push_cleared_of(
     alloc: Global,
     arena: &Arena,
     mapping: &Mapping,
-    gone: &ObjList,
-    numbers: &BTreeSet<u32>,
+    gone: &ObjIndex,
     owner: ObjId,
 ) -> Result<(), AllocError>
     requires fit { IsFit mapping.now arena.now }
-    requires numbers { AreNumbers gone.now numbers.now }
     requires owner { IsObject arena.now owner }
     ensures { OnOk result (out.new ≡ out.old
         ++ spec.cleared_of mapping.now arena.now gone.now owner) }
 {
     let relations = mapping.relations(arena.object(owner).class);
     for (number, relation) in relations.iter().enumerate() {
-        push_cleared_by(
-            out, alloc, arena, mapping, gone, numbers, owner, number, relation,
-        )?;
+        push_cleared_by(out, alloc, arena, mapping, gone, owner, number, relation)?;
     }
     Ok(())
 }
@@ -187,17 +175,16 @@ pub(crate) fn cleared(
     alloc: Global,
     arena: &Arena,
     mapping: &Mapping,
-    gone: &ObjList,
+    gone: &ObjIndex,
 ) -> Result<Cleared, AllocError>
     requires fit { IsFit mapping.now arena.now }
     requires made { All (IsObject arena.now) gone.now }
     ensures { IfOk result
         (λ cleared. cleared ≡ spec.cleared mapping.now arena.now gone.now) }
 {
-    let numbers = numbers_of(alloc, gone)?;
     let mut cleared = ListOf::new(alloc);
     for owner in gone.as_slice() {
-        push_cleared_of(&mut cleared, alloc, arena, mapping, gone, &numbers, *owner)?;
+        push_cleared_of(&mut cleared, alloc, arena, mapping, gone, *owner)?;
     }
     Ok(cleared)
 }

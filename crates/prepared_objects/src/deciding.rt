@@ -12,7 +12,7 @@ use crate::leaving::{left_with_orphans, persistent_of, push_pending, reached};
 use base_core::{ListOf, ObjList, ObjSet};
 use class_mapping::Mapping;
 use object_arena::Arena;
-use object_rows::Prepared;
+use object_rows::{LinkIndex, ObjIndex, Prepared};
 use std::alloc::{AllocError, Global};
 
 /// The pending objects of both sets.
@@ -46,9 +46,9 @@ pub fn prepared(alloc: Global, arena: &Arena, mapping: &Mapping) -> Result<Prepa
     ensures made { IfOk result (AreMade arena.now) }
 {
     let reached = reached(alloc, arena, mapping)?;
-    let deleted = persistent_of(alloc, arena, reached.as_slice())?;
-    let transient = dropped(alloc, arena, mapping, &reached)?;
-    let cleared = cleared(alloc, arena, mapping, &deleted)?;
+    let deleted = ObjIndex::of(alloc, persistent_of(alloc, arena, reached.as_slice())?)?;
+    let transient = ObjIndex::of(alloc, dropped(alloc, arena, mapping, &reached)?)?;
+    let cleared = LinkIndex::of(alloc, cleared(alloc, arena, mapping, &deleted)?)?;
     Ok(Prepared {
         deleted,
         transient,

@@ -59,7 +59,7 @@ persistent_state Persistent h = refl
 persistent_state Deleted h = absurd cc
 persistent_state Detached h = absurd cc
 
-found_has : {A : Type 0} (test : A → Bool) (xs : List A) (x : A) → find test xs ≡ Some x → Has xs x
+pub found_has : {A : Type 0} (test : A → Bool) (xs : List A) (x : A) → find test xs ≡ Some x → Has xs x
 found_has test [] x is = absurd cc
 found_has {A = A} test (y ∷ xs) x is = by (test y) (found_has test xs x) is
   where
@@ -68,7 +68,7 @@ found_has {A = A} test (y ∷ xs) x is = by (test y) (found_has test xs x) is
     by false more e = inr (more e)
 
 -- the object that is read next is persistent
-next_standing : (mapped : Mapped) (graph : Graph) (object : ObjId) → next_unread mapped graph ≡ Some object → IsStanding graph object
+pub next_standing : (mapped : Mapped) (graph : Graph) (object : ObjId) → next_unread mapped graph ≡ Some object → IsStanding graph object
 unfolding next_unread going reached reach_of object_ids
 next_standing mapped graph object is =
     let there = found_has (λ (other : ObjId). not (is_read mapped graph other)) (going mapped graph) object is in
@@ -97,14 +97,14 @@ module _ (mapped : Mapped) (store : Store) (start : Graph) (has : HasHierarchies
     pub read : AreRereadFrom mapped store.tables start w.own.graph
 
   -- and what became of the objects by a step
-  record IsMoved (w v : World) : Type 0 where
+  pub record IsMoved (w v : World) : Type 0 where
     pub going : IsGoing v
     pub since : AreRereadFrom mapped store.tables w.own.graph v.own.graph
 
   stage : (w : World) → IsGoing w → IsLoadStage mapped IsRow AreCells w
   stage w is = record { has = has; related = related; arena = is.arena; answers = subst (λ (s : Store). AnswerRows mapped IsRow AreCells s.tables) (sym is.kept) answers }
 
-  load_goes : (load : Load) (w : World) → IsGoing w → CanLoad mapped IsRow AreCells w load → IsMoved w (after_load mapped load w)
+  pub load_goes : (load : Load) (w : World) → IsGoing w → CanLoad mapped IsRow AreCells w load → IsMoved w (after_load mapped load w)
   load_goes load w is can =
       let of = rows_of_tables mapped store.tables has in
       let noting = noted_steps mapped IsRow AreCells start has (fills_made mapped IsRow has (λ class row one. one.0.wide)) in
@@ -123,7 +123,7 @@ module _ (mapped : Mapped) (store : Store) (start : Graph) (has : HasHierarchies
       }
 
   -- cells of an object are to be read again
-  reread_goes : (object : ObjId) (w : World) → IsGoing w → IsObject w.own.graph object → IsMoved w (record { own = reread object w.own; store = w.store })
+  pub reread_goes : (object : ObjId) (w : World) → IsGoing w → IsObject w.own.graph object → IsMoved w (record { own = reread object w.own; store = w.store })
   reread_goes object w is made =
       let since = graph_left mapped store.tables w.own.graph object in
       record {
@@ -178,7 +178,7 @@ module _ (mapped : Mapped) (store : Store) (start : Graph) (has : HasHierarchies
     abbrev IsPlaced : ℕ × Relation → Type 0
     IsPlaced placed = placed.0 < length (relations_of mapped class)
 
-    all_placed : (relations : List Relation) → AllByRecursion (λ (placed : ℕ × Relation). placed.0 < length relations) (enumerate_from 0 relations)
+    pub all_placed : (relations : List Relation) → AllByRecursion (λ (placed : ℕ × Relation). placed.0 < length relations) (enumerate_from 0 relations)
     all_placed relations =
         all_from (λ (placed : ℕ × Relation). placed.0 < length relations) (enumerate_from 0 relations)
         (λ placed there. let at = from_numbered 0 relations placed there in let less = slice_get_within relations at.0 placed.1 at.2 in let number = at.1 in omega (arith, less, number))

@@ -1,3 +1,6 @@
+mod Counting
+mod Done
 mod Going
+mod Known
 mod Noting
 mod Rereading

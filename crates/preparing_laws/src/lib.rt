@@ -1,6 +1,7 @@
 //! What the reading before a flush leaves of the objects, whatever it answers. The law is the contract of a function that does nothing.
 #![tactic(auto)]
 
+ghost use Rattle.preparing_laws.specs.Done.{ReadingsPrepare};
 ghost use Rattle.preparing_laws.specs.Laws.{ReadingsOnlyReread};
 
 /// The reading of what is to be known before objects are deleted leaves objects that fit the mapping, of which no two persistent ones
@@ -9,4 +10,11 @@ ghost use Rattle.preparing_laws.specs.Laws.{ReadingsOnlyReread};
 /// object that it made or that differs is named in its notes.
 pub fn readings_only_reread()
     ensures { ReadingsOnlyReread }
+{}
+
+/// Where the reading answers, all is known that is to be known before objects are deleted: the cells of each that is to be deleted, and
+/// its links along which more is deleted, or lost. It is never ended by the number of its turns: there are as many as there may be
+/// objects, each makes one more object read, and one that is read stays so.
+pub fn readings_prepare()
+    ensures { ReadingsPrepare }
 {}

@@ -10,7 +10,6 @@ use class_mapping::Mapping;
 use graph_fits::{cell_fits, key_fits, link_fits};
 use notations::{Page, number, parted};
 use object_arena::{Arena, Cell, Link, State};
-use object_rows::Prepared;
 
 /// Whether an object has been made.
 fn is_made(arena: &Arena, object: ObjId) -> bool
@@ -176,12 +175,20 @@ fn put_link(
     arena.put_link(object, place, link)
 }
 
+/// What the words so far say of the preparation.
+#[derive(Drop)]
+pub(crate) struct Said {
+    pub(crate) deleted: ObjList,
+    pub(crate) transient: ObjList,
+    pub(crate) cleared: ListOf<(ObjId, RelNo)>,
+}
+
 /// What a word says of the preparation.
-fn prepare(page: &mut Page, prepared: &mut Prepared, letter: u8, object: ObjId, place: RelNo) {
+fn prepare(page: &mut Page, said: &mut Said, letter: u8, object: ObjId, place: RelNo) {
     match letter {
-        b'D' => page.add(&mut prepared.deleted, object),
-        b'T' => page.add(&mut prepared.transient, object),
-        b'X' => page.add(&mut prepared.cleared, (object, place)),
+        b'D' => page.add(&mut said.deleted, object),
+        b'T' => page.add(&mut said.transient, object),
+        b'X' => page.add(&mut said.cleared, (object, place)),
         _ => page.lack(),
     }
 }
@@ -221,7 +228,7 @@ pub(crate) fn act(
     page: &mut Page,
     mapping: &Mapping,
     arena: &mut Arena,
-    prepared: &mut Prepared,
+    said: &mut Said,
     word: &str,
 )
     requires fit { IsFit mapping.now arena.old }
@@ -235,7 +242,7 @@ pub(crate) fn act(
         return make(page, mapping, arena, ClassId(number(first)));
     }
     if letter.is_ascii_uppercase() {
-        return prepare(page, prepared, letter, object, RelNo(number(words)));
+        return prepare(page, said, letter, object, RelNo(number(words)));
     }
     if !is_made(arena, object) {
         return page.lack();

@@ -2,7 +2,7 @@
 
 ghost use Rattle.object_arena.specs.Fit.{IsFit};
 
-use crate::acts::{act, are_made};
+use crate::acts::{Said, act, are_made};
 use crate::changes::put_changes;
 use crate::mapping::declare_all;
 use base_core::ListOf;
@@ -10,17 +10,17 @@ use class_mapping::Mapping;
 use class_types::Hooks;
 use notations::{Page, parted};
 use object_arena::Arena;
-use object_rows::Prepared;
+use object_rows::{LinkIndex, ObjIndex, Prepared};
 use row_project::project;
-use std::alloc::Global;
+use std::alloc::{AllocError, Global};
 
-/// Makes the graph and the preparation that the words of a line tell.
-fn make(page: &mut Page, mapping: &Mapping, arena: &mut Arena, prepared: &mut Prepared, line: &str)
+/// Makes the graph that the words of a line tell, and notes what they say of the preparation.
+fn make(page: &mut Page, mapping: &Mapping, arena: &mut Arena, said: &mut Said, line: &str)
     requires fit { IsFit mapping.now arena.old }
     ensures { IsFit mapping.now arena.new }
 {
     for word in line.split(' ') {
-        act(page, mapping, arena, prepared, word);
+        act(page, mapping, arena, said, word);
     }
 }
 
@@ -38,20 +38,37 @@ fn tell_changes(mapping: &Mapping, arena: &Arena, prepared: &Prepared, page: &mu
 }
 
 /// Nothing is to be deleted, to be transient or to be cleared.
-fn nothing_prepared(alloc: Global) -> Prepared {
-    Prepared {
+fn nothing_said(alloc: Global) -> Said {
+    Said {
         deleted: ListOf::new(alloc),
         transient: ListOf::new(alloc),
         cleared: ListOf::new(alloc),
     }
 }
 
+/// The preparation that was said.
+fn prepared_of(alloc: Global, said: Said) -> Result<Prepared, AllocError> {
+    let Said {
+        deleted,
+        transient,
+        cleared,
+    } = said;
+    Ok(Prepared {
+        deleted: ObjIndex::of(alloc, deleted)?,
+        transient: ObjIndex::of(alloc, transient)?,
+        cleared: LinkIndex::of(alloc, cleared)?,
+    })
+}
+
 /// Makes a graph from nothing, and tells what a flush of it changes.
 fn tell_graph(mapping: &Mapping, line: &str, page: &mut Page) {
     let mut arena = Arena::new(page.alloc());
-    let mut prepared = nothing_prepared(page.alloc());
-    make(page, mapping, &mut arena, &mut prepared, line);
-    tell_changes(mapping, &arena, &prepared, page)
+    let mut said = nothing_said(page.alloc());
+    make(page, mapping, &mut arena, &mut said, line);
+    match prepared_of(page.alloc(), said) {
+        Ok(prepared) => tell_changes(mapping, &arena, &prepared, page),
+        Err(_) => page.lack(),
+    }
 }
 
 /// The answers to the lines of a group.

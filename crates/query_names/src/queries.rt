@@ -1,8 +1,9 @@
 //! Queries for objects.
 
-ghost use Rattle.std.specs.Prelude.{◌≡◌, ◌<◌, length, IfErr, IfOk, IsTrue, ◌↔◌};
+ghost use Rattle.std.specs.Prelude.{◌≡◌, ◌<◌, length, IfErr, IfOk, IsTrue, OnOk, ◌↔◌};
 ghost use Rattle.std.specs.List.{All};
 ghost use Rattle.base_core.specs.Answers.{Gives};
+ghost use Rattle.class_mapping.specs.Configured.{IsConfigured};
 ghost use Rattle.class_mapping.specs.Mapped.{IsClass, relations_of};
 ghost use Rattle.known_queries.specs.Known.{ReadsJoined};
 ghost use Rattle.load_queries.specs.Selectin.{IsSelectable};
@@ -308,31 +309,12 @@ fn has_plain_select(
 ) -> Result<bool, AllocError>
     requires class { IsClass mapping.now query.now.class }
     requires options { HasOptions mapping.now query.now }
-    ensures { IfOk result (λ plain. IsTrue plain
+    ensures plain { IfOk result (λ plain. IsTrue plain
         ↔ IsPlainSelect mapping.now.schema (main_select mapping.now query.now)) }
+    ensures configured { OnOk result (IsConfigured mapping.now) }
 {
     let select = Boxed::new(alloc, main_select(alloc, mapping, query)?)?;
     is_plain_select(alloc, mapping.schema(), select.get())
-}
-
-/// The query in numbers, with its select in normal form, whose main select is one that a keeper may be sent.
-fn plain_query(
-    alloc: Global,
-    mapping: &Mapping,
-    written: &SynQuery,
-) -> Result<Boxed<ObjectQuery>, Refusal>
-    ensures told { Gives (λ query. query) result (spec.resolved_query mapping.now written.now) }
-    ensures cause { IfErr result IsOfQueries }
-    ensures class { IfOk result (λ query. IsClass mapping.now query.class) }
-    ensures options { IfOk result (HasOptions mapping.now) }
-    ensures plain { IfOk result
-        (λ query. IsPlainSelect mapping.now.schema (main_select mapping.now query)) }
-{
-    let query = resolved(alloc, mapping, written)?;
-    if !has_plain_select(alloc, mapping, query.get())? {
-        return Err(Refusal::Memory);
-    }
-    Ok(query)
 }
 
 /// The query for objects that a line says, in numbers and with its select in normal form. Its class, the classes that it joins and
@@ -356,6 +338,9 @@ pub fn resolve_query(
     // Its rows are known by the tables.
     ensures readable { IfOk result (ReadsJoined mapping.now) }
 {
-    let _configured = mapping.schema();
-    plain_query(alloc, mapping, written)
+    let query = resolved(alloc, mapping, written)?;
+    if !has_plain_select(alloc, mapping, query.get())? {
+        return Err(Refusal::Memory);
+    }
+    Ok(query)
 }

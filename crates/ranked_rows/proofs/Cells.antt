@@ -1,9 +1,10 @@
 -- What is answered to the select of some attributes of an object under its key: what stands under the key.
-use Rattle.std.proofs.Common.{◌≡◌, ℕ, ◌==◌, Bool, true, ◌&&◌, List, [], ◌∷◌, length, map, Option, None, Some, Ok, Err, IfOk, refl, sym, ap, subst, ◌∙◌, append-nil}
+use Rattle.std.proofs.Common.{◌≡◌, ℕ, ◌≤◌, ◌==◌, Bool, true, ◌&&◌, List, [], ◌∷◌, length, map, Option, None, Some, Ok, Err, IfOk, refl, sym, ap, subst, ◌∙◌, append-nil, arith}
 use Rattle.std.specs.Prelude.{slice_get}
 use Rattle.std.specs.List.{All, AllByRecursion, position}
 use Rattle.std.specs.Option.{option_and_then, option_map}
 use Rattle.std.proofs.lemmas.Bool.{and_parts, eqb-true}
+use Rattle.std.proofs.lemmas.List.{length-map}
 use Rattle.std.proofs.lemmas.List.Elements.{recursion_from_All}
 use Rattle.std.proofs.lemmas.Option.{slice_get-get_or, slice_get-map}
 use Rattle.base_core.specs.declared.ids.AttrNo.{AttrNo}
@@ -138,6 +139,20 @@ module _ (mapped : Mapped) (tables : held.Tables) (sound : AreSound mapped.schem
   cells_ranked rows is row there =
       let one = chosen_row mapped.schema (bare tables) root ties columns conditions test (held_rows mapped tables sound) within.ties_in within.items_in local rows is row there in
       subst (AreCellsOfTables mapped tables class attrs key) (sym one.2) (ranked_cells one.0 (choice_ranked one.0 one.1))
+
+  -- they are as wide as what was asked for
+  pub cells_wide : IfOk (answer mapped.schema (bare tables) (cells_select mapped class attrs key)) (AllByRecursion (λ (row : Row). length attrs ≤ length row))
+  cells_wide = by (answer mapped.schema (bare tables) (cells_select mapped class attrs key)) refl
+    where
+      wide : (rows : List Row) → answer mapped.schema (bare tables) tied ≡ Ok rows → (row : Row) → Has rows row → length attrs ≤ length row
+      wide rows is row there =
+          let one = chosen_row mapped.schema (bare tables) root ties columns conditions test (held_rows mapped tables sound) within.ties_in within.items_in local rows is row there in
+          let long : length row ≡ length attrs = ap (λ (values : Row). length values) one.2 ∙ length-map columns (chosen one.0) ∙ length-map attrs (cell_column mapped class) in
+          omega (arith, long)
+
+      by : (r : Checked (List Row)) → answer mapped.schema (bare tables) (cells_select mapped class attrs key) ≡ r → IfOk r (AllByRecursion (λ (row : Row). length attrs ≤ length row))
+      by (Ok rows) is = all_from (λ (row : Row). length attrs ≤ length row) rows (wide rows (ap (answer mapped.schema (bare tables)) (sym select_is) ∙ is))
+      by (Err e) is = tt
 
   cells_of_kinds : (rows : List Row) → answer mapped.schema (bare tables) (cells_select mapped class attrs key) ≡ Ok rows → AllByRecursion (AreCellsOf mapped class attrs) rows
   cells_of_kinds rows is =

@@ -1,5 +1,5 @@
 -- What every load leaves over legal tables, whatever it answers.
-use Rattle.std.proofs.Common.{inr, refl}
+use Rattle.std.proofs.Common.{◌≤◌, inr, length, refl}
 use Rattle.std.proofs.lemmas.List.Elements.{recursion_from_All}
 use Rattle.schema_core.specs.Tables as held
 use Rattle.class_mapping.specs.Mapped.{Mapped}
@@ -18,7 +18,7 @@ use Rattle.load_steps.proofs.Loaded.{none_read, read_steps}
 use Rattle.load_steps.proofs.Loads.{load_leaves, rows_of_tables}
 use Rattle.load_steps.proofs.Noted.{noted_steps}
 use Rattle.ranked_rows.specs.Loads.{CanLoadOver, LoadsOverLegalTables}
-use Rattle.ranked_rows.proofs.Cells.{cells_answered}
+use Rattle.ranked_rows.proofs.Cells.{cells_answered, cells_wide}
 use Rattle.ranked_rows.proofs.Classes.{keyed, members, own_answered, targets}
 use Rattle.ranked_rows.proofs.Pairs.{batches}
 use Rattle.ranked_rows.proofs.Parts.{joined_answered}
@@ -32,6 +32,18 @@ answer_rows mapped tables has sound = record {
   members = λ relation key related many. members mapped tables sound has relation related.target key;
   batches = λ relation keys related many. batches mapped tables sound has relation related keys;
 }
+
+-- and rows of cells with a value for each attribute
+pub wide_cells : (mapped : Mapped) (tables : held.Tables) → HasHierarchies mapped → AreSound mapped.schema tables → AnswerRows mapped (IsRowOfTables mapped tables) (λ class attrs key row. length attrs ≤ length row) tables
+wide_cells mapped tables has sound =
+    let rows = answer_rows mapped tables has sound in
+    record {
+      cells = λ class attrs key less inside fits. cells_wide mapped tables sound has class less attrs key inside fits;
+      keyed = rows.keyed;
+      targets = rows.targets;
+      members = rows.members;
+      batches = rows.batches;
+    }
 
 no_steps : (mapped : Mapped) (tables : held.Tables) → AreLoadSteps mapped (IsRowOfTables mapped tables) (AreReadOfTables mapped tables) (λ own. Unit {0})
 no_steps mapped tables = record {

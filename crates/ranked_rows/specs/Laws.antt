@@ -1,4 +1,5 @@
 -- Which rows the selects of loads answer over legal tables.
+use Rattle.std.specs.Prelude.{◌≤◌, length}
 use Rattle.schema_core.specs.Tables.{Tables}
 use Rattle.expr_types.specs.declared.select.ObjectQuery.{ObjectQuery}
 use Rattle.class_mapping.specs.Mapped.{Mapped}
@@ -21,3 +22,8 @@ OwnSelectsAnswerTableRows = (mapped : Mapped) (tables : Tables) (query : ObjectQ
 abbrev pub MainSelectsAnswerTableRows : Type 0
 MainSelectsAnswerTableRows =
     (mapped : Mapped) (tables : Tables) (query : ObjectQuery) → HasHierarchies mapped → AreRelated mapped → AreSound mapped.schema tables → ReadsJoined mapped query → AnswersJoined mapped (IsRowOfTables mapped tables) tables query
+
+-- The rows of an object's cells have a value for each attribute that is asked for.
+abbrev pub SelectsAnswerWideCells : Type 0
+SelectsAnswerWideCells =
+    (mapped : Mapped) (tables : Tables) → HasHierarchies mapped → AreSound mapped.schema tables → AnswerRows mapped (IsRowOfTables mapped tables) (λ class attrs key row. length attrs ≤ length row) tables

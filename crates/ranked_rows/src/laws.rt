@@ -5,6 +5,7 @@ ghost use Rattle.ranked_rows.specs.Laws.{
   MainSelectsAnswerTableRows,
   OwnSelectsAnswerTableRows,
   SelectsAnswerTableRows,
+  SelectsAnswerWideCells,
 };
 
 /// Over legal tables each select by which an object's cells, a many-to-one link, a collection or the collections of several owners are
@@ -33,4 +34,9 @@ pub fn main_selects_answer_table_rows()
 /// with the tables of its class and to read the class's attributes.
 pub fn loads_over_legal_tables()
     ensures { LoadsOverLegalTables }
+{}
+
+/// Each row of a select of an object's cells has a value for each attribute that is asked for.
+pub fn selects_answer_wide_cells()
+    ensures { SelectsAnswerWideCells }
 {}

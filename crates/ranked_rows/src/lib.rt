@@ -5,5 +5,5 @@ mod laws;
 
 pub use laws::{
     loads_over_legal_tables, main_selects_answer_table_rows, own_selects_answer_table_rows,
-    selects_answer_table_rows,
+    selects_answer_table_rows, selects_answer_wide_cells,
 };

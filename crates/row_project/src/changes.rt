@@ -2,6 +2,7 @@
 
 ghost use Rattle.std.specs.Prelude.{◌≡◌, ◌≤◌, length, IsTrue, IfOk};
 ghost use Rattle.std.specs.List.{All};
+ghost use Rattle.class_mapping.specs.Configured.{IsConfigured};
 ghost use Rattle.flush_order.specs.Ready.{AreInRange, AreReady};
 ghost use Rattle.object_arena.specs.Fit.{IsFit};
 ghost use Rattle.object_arena.specs.Graph.{IsObject};
@@ -154,7 +155,7 @@ fn rows_ready(
 }
 
 /// What a flush of a prepared graph changes (`project`), with its new rows made ready for a plan. Where no key passes from a
-/// deleted row to a new one, they are made ready once.
+/// deleted row to a new one, they are made ready once. Of the mapping all was checked, as of each.
 ///
 /// # Errors
 /// As of `project`.
@@ -170,6 +171,7 @@ pub fn project_ready(
         (λ made. made.0 ≡ project mapping.now arena.now prepared.now) }
     ensures range { IfOk result (λ made. AreInRange mapping.now.schema made.0) }
     ensures ready { IfOk result (λ made. AreReady mapping.now.schema made.0 made.1.items) }
+    ensures configured { IsConfigured mapping.now }
 {
     let schema = mapping.schema();
     let plain = object_changes(alloc, arena, mapping, prepared)?;

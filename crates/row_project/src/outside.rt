@@ -4,16 +4,14 @@ ghost use Rattle.std.specs.Prelude.{◌≡◌, ◌++◌, ◌∷◌, [], not, map
 ghost use Rattle.std.specs.List.{All, enumerate_from, flat_map};
 ghost use Rattle.object_arena.specs.Fit.{IsFit};
 ghost use Rattle.object_arena.specs.Graph.{IsObject};
-ghost use Rattle.object_rows.specs.Seen.{AreNumbers, object_ids as all_ids};
+ghost use Rattle.object_rows.specs.Seen.{object_ids as all_ids};
 ghost use Rattle.row_project.specs.Warnings as spec;
 
 use base_core::{ListOf, ObjId, ObjList, RelNo, Warning};
 use class_layouts::number_of;
 use class_mapping::{Mapping, Relation};
 use object_arena::{Arena, Link};
-use object_rows::{
-    Prepared, end_put, is_in_session, is_new_beside, keeps_rows_beside, numbers_of, object_ids,
-};
+use object_rows::{Prepared, end_put, is_in_session, is_new, keeps_rows, object_ids};
 use pair_rows::{is_leaving, link_or, members_added, members_removed};
 use std::alloc::{AllocError, Global};
 use std::collections::BTreeSet;
@@ -168,19 +166,11 @@ fn push_warned_of(
     Ok(())
 }
 
-fn is_written(
-    arena: &Arena,
-    prepared: &Prepared,
-    transient: &BTreeSet<u32>,
-    deleted: &BTreeSet<u32>,
-    object: ObjId,
-) -> bool
-    requires transient { AreNumbers prepared.now.transient transient.now }
-    requires deleted { AreNumbers prepared.now.deleted deleted.now }
+/// Whether an object is in the session, and is not to be deleted.
+fn is_written(arena: &Arena, prepared: &Prepared, object: ObjId) -> bool
     ensures { result ≡ spec.is_written arena.now prepared.now object }
 {
-    is_new_beside(arena, prepared, transient, object)
-        || keeps_rows_beside(arena, prepared, deleted, object)
+    is_new(arena, prepared, object) || keeps_rows(arena, prepared, object)
 }
 
 /// The objects in the session that are not to be deleted.
@@ -188,12 +178,10 @@ fn written_list(alloc: Global, arena: &Arena, prepared: &Prepared) -> Result<Vec
     ensures { IfOk result (λ objects. objects.items
         ≡ filter (spec.is_written arena.now prepared.now) (all_ids arena.now)) }
 {
-    let transient = numbers_of(alloc, &prepared.transient)?;
-    let deleted = numbers_of(alloc, &prepared.deleted)?;
     let ids = object_ids(alloc, arena)?;
     let mut written = Vec::new(alloc);
     for object in &ids {
-        if is_written(arena, prepared, &transient, &deleted, *object) {
+        if is_written(arena, prepared, *object) {
             written.push(*object)?;
         }
     }

@@ -25,7 +25,7 @@ use Rattle.shell_parts.specs.declared.block.Declared.TheVariants as declared
 use Rattle.shell_parts.specs.Blocks.{block_of, block_over, declared_of, forms_of, with_class_line, with_line}
 use Rattle.shell_lines.specs.declared.desk.Said.{Said}
 use Rattle.shell_lines.specs.declared.desk.Said.TheVariants.{Nothing, Configure, Declare, Compile, Do}
-use Rattle.shell_lines.specs.Lines.{is_built, is_compiled, is_end}
+use Rattle.shell_lines.specs.Lines.{is_compiled, is_end}
 use Rattle.shell_lines.specs.Desk.{DeskState, done_if, done_of, ends_block, is_configure, is_head, is_skip, is_skipped, next_line, opened, place_of, said_at, said_line, said_read, skip_block, unless_end, with_block, with_line_taken, with_skipping}
 use Rattle.script_laws.specs.Scripts.{IsLateBlock, IsLateDeclared}
 
@@ -141,17 +141,16 @@ opened_late : (r : Result Block Refusal) (desk : DeskState) → IsLateBlock desk
 opened_late (Ok block) desk before late = quiet_late Nothing (with_block (Some block) desk) (late block refl) tt
 opened_late (Err e) desk before late = refused_late e desk before
 
-done_late : (compiled built : Bool) (command : Command) (desk : DeskState) → IsLateBlock desk.block → IsLateRun (quiet (done_if compiled built command) desk)
-done_late true built command desk before = quiet_late (Compile command) desk before tt
-done_late false true command desk before = quiet_late (Do command) desk before tt
-done_late false false command desk before = refused_late _ desk before
+done_late : (compiled : Bool) (command : Command) (desk : DeskState) → IsLateBlock desk.block → IsLateRun (quiet (Ok (done_if compiled command)) desk)
+done_late true command desk before = quiet_late (Compile command) desk before tt
+done_late false command desk before = quiet_late (Do command) desk before tt
 
 outside_late : (skip head configures : Bool) (command : Command) (desk : DeskState) → IsLateBlock desk.block
-    → IsLateRun (if skip then quiet (Ok Nothing) desk else if head then opened (block_of command desk.line) desk else if configures then quiet (Ok Configure) desk else quiet (done_of command) desk)
+    → IsLateRun (if skip then quiet (Ok Nothing) desk else if head then opened (block_of command desk.line) desk else if configures then quiet (Ok Configure) desk else quiet (Ok (done_of command)) desk)
 outside_late true head configures command desk before = quiet_late Nothing desk before tt
 outside_late false true configures command desk before = opened_late (block_of command desk.line) desk before (λ block is. begun_late desk.line (declared_of command) block (head_late command) is)
 outside_late false false true command desk before = quiet_late Configure desk before tt
-outside_late false false false command desk before = done_late (is_compiled command) (is_built command) command desk before
+outside_late false false false command desk before = done_late (is_compiled command) command desk before
 
 inside_late : (ends : Bool) (block : Block) (command : Command) (desk : DeskState) → IsLateDeclared block.declared → IsLateDeclared (with_line block.declared command)
     → IsLateRun (if ends then quiet (Ok (Declare block)) (with_block None desk) else quiet (Ok Nothing) (with_block (Some (with_line_taken command block)) desk))

@@ -29,8 +29,8 @@ use Rattle.session_scopes.specs.SessionState.{AreThereStill, GoesOn, IsMadeOf, S
 use Rattle.session_scopes.proofs.SessionLemmas.{there_made, there_still}
 use Rattle.session_calls.specs.Parts.{World}
 use Rattle.session_calls.proofs.Joining.{goes_itself}
+use Rattle.session_acts.specs.Flush.{flush}
 use Rattle.session_acts.specs.Steps as acts
-use Rattle.session_acts.specs.Steps.{flush_whole}
 use Rattle.session_tables.specs.Dump.{Filled, scan_each, scan_one, scan_tables}
 use Rattle.relations.specs.declared.calls.LinkCall.TheVariants.{Append, Remove, Set}
 use Rattle.session_links.specs.Reading.{AreToldMade}
@@ -38,7 +38,7 @@ use Rattle.session_links.specs.declared.reading.Related.{Related}
 use Rattle.session_links.specs.declared.reading.Related.TheVariants.{Many, One}
 use Rattle.load_queries.specs.Selectin.{IsOption}
 use Rattle.session_loads.specs.Queries.{select_objects}
-use Rattle.session_loads.specs.Reads.{change_collection, get, read_cell, read_related, refresh}
+use Rattle.session_loads.specs.Reads.{change_collection, expire, get, read_cell, read_related, refresh}
 use Rattle.session_load_laws.specs.Readings.{GetsTellMade, IsPlace, LinksTellMade, QueriesTellMade, Reading, ReadingsGoOn, ReadingsKeepWhole}
 use Rattle.session_acts.specs.Savepoints.{begin_savepoint, enter_nested}
 use Rattle.session_tables.specs.declared.tables.TableChange.TheVariants.{Create, Drop}
@@ -56,10 +56,12 @@ use Rattle.shell_stage.specs.declared.stage.Stage.TheVariants.{Configured}
 use Rattle.shell_stage.specs.Stages.{AreBound}
 use Rattle.shell_stage.proofs.Bindings.{bound_same, bound_stays}
 use Rattle.session_laws.specs.Health.Calls.{Call, after_call}
+use Rattle.session_laws.specs.Preparing.{PreparationsLeaveReread}
 use Rattle.session_laws.proofs.Health.Objects.{class_left}
 use Rattle.session_laws.specs.Whole.{CallsKeepWhole, IsCallOf, IsHale}
 use Rattle.session_laws.proofs.Whole.Keeping.{Holds}
 use Rattle.session_laws.proofs.Whole.Programs as keeps
+use Rattle.session_laws.proofs.Whole.Reads.{reads_bulk, reads_entered, reads_handle, reads_nested}
 use Rattle.session_laws.proofs.Whole.Since.{IsKeyedSince, since_steps}
 use Rattle.script_laws.specs.Lines.{LinesKeepWhole}
 use Rattle.script_laws.proofs.Linked.{end_made, link_declared, link_there}
@@ -184,8 +186,8 @@ handle_drawn w number is =
 nested_drawn : Draws acts.begin_nested
 unfolding acts.begin_nested begin_savepoint
 nested_drawn =
-    draws_then enter_nested (λ u. flush_whole >>= λ u. begin_savepoint)
-    (λ u. draws_then flush_whole (λ u. begin_savepoint) (λ u. draws_then (on_store with_notes call.savepoint) (λ u. (changes session_nested >>= λ u. by_own (λ session. give session.drawn.drawn))) (λ u. handle_drawn)))
+    draws_then enter_nested (λ u. flush >>= λ u. begin_savepoint)
+    (λ u. draws_then flush (λ u. begin_savepoint) (λ u. draws_then (on_store with_notes call.savepoint) (λ u. (changes session_nested >>= λ u. by_own (λ session. give session.drawn.drawn))) (λ u. handle_drawn)))
 
 -- ---- each case of a line
 
@@ -200,8 +202,9 @@ pub record IsLeft (names : Bindings) (run : Run World Answer) : Type 0 where
   pub bound : AreBound (Configured run.after.own) names
   pub told : (a : Answer) → run.answer ≡ Ok a → IsBound run.after.own a
 
--- the laws of calls that read rows into objects
+-- the laws of calls that read rows into objects, a flush among them
 pub record ReadingLaws : Type 0 where
+  pub prepares : PreparationsLeaveReread
   pub whole : ReadingsKeepWhole
   pub goes : ReadingsGoOn
   pub keys : GetsTellMade
@@ -227,6 +230,11 @@ module _ (law : CallsKeepWhole) (reads : ReadingLaws) (rules : Rules) (names : B
   kept_left : {A : Type 0} (tell : A → Answer) (m : World → Run World A) (w : World) → ((own : SessionState) (a : A) → IsBound own (tell a)) → IsHale w → AreBound (Configured w.own) names → IsHale (m w).after → Keeps (Holds (IsKeyedSince w.own)) m → IsLeft names (telling tell m w)
   kept_left tell m w binds before bound hale keeps = told_left tell m w binds bound hale (keeps.kept w (record { keyed = before.keyed; same = goes_itself w.own })).same
 
+  -- a call that flushes: what it keeps of a session is told of each
+  flushed_left : {A : Type 0} (tell : A → Answer) (m : World → Run World A) (w : World) → ((own : SessionState) (a : A) → IsBound own (tell a)) → IsHale w → AreBound (Configured w.own) names → IsHale (m w).after
+      → (IsKeyedSince w.own w.own → IsKeyedSince w.own (m w).after.own) → IsLeft names (telling tell m w)
+  flushed_left tell m w binds before bound hale keeps = told_left tell m w binds bound hale (keeps (record { keyed = before.keyed; same = goes_itself w.own })).same
+
   -- an object is made, and bound
   made_left : (name : List ℕ) (class : ClassId) (cells : List (AttrNo × Value)) (w : World) → IsHale w → Asks w.own.mapping w.own.graph (resolved.New name class cells) → AreBound (Configured w.own) names → IsLeft names (program_of_resolved rules (resolved.New name class cells) w)
   unfolding on_own
@@ -248,7 +256,7 @@ module _ (law : CallsKeepWhole) (reads : ReadingLaws) (rules : Rules) (names : B
   nested_left name w hale bound =
       let m : World → Run World ℕ = acts.begin_nested in
       let tell : ℕ → Answer = λ handle. answer.Bind name (Saved handle) in
-      let same = ((keeps.begins_nested (IsKeyedSince w.own) (since_steps w.own)).kept w (record { keyed = hale.keyed; same = goes_itself w.own })).same in
+      let same = (keeps.begins_nested (IsKeyedSince w.own) (since_steps w.own) w (reads_nested reads.prepares w hale) (record { keyed = hale.keyed; same = goes_itself w.own })).same in
       record {
         hale = told_after IsHale tell m w (called Call.BeginNested w hale tt);
         bound = told_after (λ v. AreBound (Configured v.own) names) tell m w (bound_same names w.own (m w).after.own same bound);
@@ -315,6 +323,9 @@ module _ (law : CallsKeepWhole) (reads : ReadingLaws) (rules : Rules) (names : B
         told_left _ (change_collection owner relation (Remove member)) w (λ own a. tt) bound (reads.whole (Reading.Change owner relation (Remove member)) w asks hale) (reads.goes (Reading.Change owner relation (Remove member)) w asks hale)
     line_left (resolved.Add object) asks = kept_left _ _ w (λ own a. tt) hale bound (called (Call.Add object) w hale asks) (keeps.adds P steps object)
     line_left (resolved.Delete object) asks = kept_left _ _ w (λ own a. tt) hale bound (called (Call.Delete object) w hale asks) (keeps.deletes P steps object)
+    line_left (resolved.Expunge object) asks = kept_left _ _ w (λ own a. tt) hale bound (called (Call.Expunge object) w hale asks) (keeps.expunges P steps object)
+    line_left (resolved.Expire object) asks =
+        told_left _ (expire object) w (λ own a. tt) bound (reads.whole (Reading.Expiry object) w asks hale) (reads.goes (Reading.Expiry object) w asks hale)
     line_left (resolved.Refresh object) asks =
         told_left _ (refresh object) w (λ own a. tt) bound (reads.whole (Reading.Anew object) w asks hale) (reads.goes (Reading.Anew object) w asks hale)
     line_left (resolved.Show thing) asks = as_it_was (answer.Thing thing) w (λ own. tt) hale bound
@@ -325,14 +336,16 @@ module _ (law : CallsKeepWhole) (reads : ReadingLaws) (rules : Rules) (names : B
         read_left (read_related object relation) (λ related session. answer.Thing (link_shown session.graph related)) w bound (reads.whole (Reading.Link object relation) w place hale) (reads.goes (Reading.Link object relation) w place hale) (λ related is. tt)
     line_left (resolved.State object) asks = as_it_was (answer.State (object_at w.own.graph object).state) w (λ own. tt) hale bound
     line_left (resolved.Same object other) asks = as_it_was _ w (λ own. tt) hale bound
-    line_left resolved.Flush asks = kept_left _ _ w (λ own a. tt) hale bound (called Call.Flush w hale tt) (keeps.flushes P steps)
-    line_left (resolved.Commit None) asks = kept_left _ _ w (λ own a. tt) hale bound (called Call.Commit w hale tt) (keeps.commits P steps)
-    line_left (resolved.Commit (Some handle)) asks = kept_left _ _ w (λ own a. tt) hale bound (called (Call.CommitHandle handle) w hale tt) (keeps.commits_handle P steps handle)
+    line_left resolved.Flush asks = flushed_left _ _ w (λ own a. tt) hale bound (called Call.Flush w hale tt) (keeps.flushes P steps w (reads_entered reads.prepares w hale))
+    line_left (resolved.Commit None) asks = flushed_left _ _ w (λ own a. tt) hale bound (called Call.Commit w hale tt) (keeps.commits P steps w (reads_entered reads.prepares w hale))
+    line_left (resolved.Commit (Some handle)) asks =
+        flushed_left _ _ w (λ own a. tt) hale bound (called (Call.CommitHandle handle) w hale tt) (keeps.commits_handle P steps handle w (reads_handle reads.prepares handle w hale))
     line_left (resolved.Rollback None) asks = kept_left _ _ w (λ own a. tt) hale bound (called Call.Rollback w hale tt) (keeps.rolls_back P steps)
     line_left (resolved.Rollback (Some handle)) asks = kept_left _ _ w (λ own a. tt) hale bound (called (Call.RollbackHandle handle) w hale tt) (keeps.rolls_back_to P steps handle)
     line_left resolved.Close asks = kept_left _ _ w (λ own a. tt) hale bound (called Call.Close w hale tt) (keeps.closes P steps)
-    line_left (resolved.Rows select) asks = kept_left answer.Rows _ w (λ own a. tt) hale bound (called (Call.Rows select) w hale tt) (keeps.asks_rows P steps select)
-    line_left (resolved.Bulk statement) asks = kept_left answer.Count _ w (λ own a. tt) hale bound (called (Call.Write statement) w hale asks) (keeps.sends_bulk P steps statement)
+    line_left (resolved.Rows select) asks = flushed_left answer.Rows _ w (λ own a. tt) hale bound (called (Call.Rows select) w hale tt) (keeps.asks_rows P steps select w (reads_entered reads.prepares w hale))
+    line_left (resolved.Bulk statement) asks =
+        flushed_left answer.Count _ w (λ own a. tt) hale bound (called (Call.Write statement) w hale asks) (keeps.sends_bulk P steps statement w (reads_bulk reads.prepares statement w hale))
 
 -- ---- lines of which all that they name is there
 
@@ -342,6 +355,8 @@ ready_asks own (resolved.SetCell object attr value) ready = ((object_at own.grap
 ready_asks own (resolved.ChangeLink owner relation change) ready = record { made = ready.0.0; there = ready.0.1.0; form = ready.0.1.1; end = ready.1 }
 ready_asks own (resolved.Add object) ready = ready
 ready_asks own (resolved.Delete object) ready = ready
+ready_asks own (resolved.Expunge object) ready = ready
+ready_asks own (resolved.Expire object) ready = ready
 ready_asks own (resolved.Get name class key) ready = ready.0
 ready_asks own (resolved.Objects name query) ready =
     (ready.1, recursion_from_All (IsOption own.mapping query.class) query.joined ready.0.joined, recursion_from_All (IsOption own.mapping query.class) query.selectin ready.0.selectin)

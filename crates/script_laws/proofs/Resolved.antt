@@ -67,6 +67,8 @@ Asks mapped graph (resolved.SetCell object attr value) = (class : ClassId) × Is
 Asks mapped graph (resolved.ChangeLink owner relation call) = IsLinkCall mapped graph owner relation call
 Asks mapped graph (resolved.Add object) = IsObject graph object
 Asks mapped graph (resolved.Delete object) = IsObject graph object
+Asks mapped graph (resolved.Expunge object) = IsObject graph object
+Asks mapped graph (resolved.Expire object) = IsObject graph object
 Asks mapped graph (resolved.Get name class key) = IsClass mapped class
 Asks mapped graph (resolved.Objects name query) = IsReadable mapped query
 Asks mapped graph (resolved.Related name object relation) = HasRelation mapped graph object relation
@@ -278,6 +280,8 @@ module _ (mapped : Mapped) (has : HasHierarchies mapped) (relations : AreRelated
   asks_what_is_there (line.Remove term member other) asked sayable is = change_line true term member other Remove asked (λ end. refl) (λ end. refl) is
   asks_what_is_there (line.Add term) asked sayable is = one_object term resolved.Add asked (λ object made. made) is
   asks_what_is_there (line.Delete term) asked sayable is = one_object term resolved.Delete asked (λ object made. made) is
+  asks_what_is_there (line.Expunge term) asked sayable is = one_object term resolved.Expunge asked (λ object made. made) is
+  asks_what_is_there (line.Expire term) asked sayable is = one_object term resolved.Expire asked (λ object made. made) is
   asks_what_is_there (line.Show term) asked sayable is = free (shown_of names term) resolved.Show asked (λ thing. tt) is
   asks_what_is_there (line.ShowMember term member) asked sayable is = show_line term member asked is
   asks_what_is_there (line.State term) asked sayable is = one_object term resolved.State asked (λ object made. tt) is

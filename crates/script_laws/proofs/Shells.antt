@@ -33,8 +33,8 @@ use Rattle.command_resolve.specs.Resolving.{resolve}
 use Rattle.command_names.specs.Terms.{Bindings}
 use Rattle.shell_lines.specs.declared.desk.Said.{Said}
 use Rattle.shell_lines.specs.declared.desk.Said.TheVariants.{Nothing, Configure, Declare, Compile, Do}
-use Rattle.shell_lines.specs.Lines.{is_built, is_compiled}
-use Rattle.shell_lines.specs.Desk.{CanBeDone, DeskState, done_if, ends_block, is_configure, is_head, is_skip, is_skipped, next_line, opened, place_of, said_at, said_line, said_read}
+use Rattle.shell_lines.specs.Lines.{is_compiled}
+use Rattle.shell_lines.specs.Desk.{CanBeDone, DeskState, done_if, done_of, ends_block, is_configure, is_head, is_skip, is_skipped, next_line, opened, place_of, said_at, said_line, said_read}
 use Rattle.shell_stage.specs.declared.stage.Stage.{Stage}
 use Rattle.shell_stage.specs.declared.stage.Stage.TheVariants.{Declaring, Configured}
 use Rattle.shell_stage.specs.Asking.{asked, has_texts}
@@ -64,22 +64,21 @@ Shells = Beside ShellState
 
 -- ---- what a line says
 
-done_says : (compiled built : Bool) (command : Command) (said : Said) → IsSayable command → done_if compiled built command ≡ Ok said → CanBeDone said
-done_says true built command said sayable is = subst CanBeDone (let same : (let s : Said = Compile command in s ≡ said) = cc in same) sayable
-done_says false true command said sayable is = subst CanBeDone (let same : (let s : Said = Do command in s ≡ said) = cc in same) sayable
-done_says false false command said sayable is = absurd cc
+done_says : (compiled : Bool) (command : Command) (said : Said) → IsSayable command → (let r : Result Said Refusal = Ok (done_if compiled command) in r ≡ Ok said) → CanBeDone said
+done_says true command said sayable is = subst CanBeDone (let same : (let s : Said = Compile command in s ≡ said) = cc in same) sayable
+done_says false command said sayable is = subst CanBeDone (let same : (let s : Said = Do command in s ≡ said) = cc in same) sayable
 
 opened_says : (r : Result Block Refusal) (desk : DeskState) (said : Said) → (opened r desk).answer ≡ Ok said → CanBeDone said
 opened_says (Ok block) desk said is = subst CanBeDone (let same : Nothing ≡ said = cc in same) tt
 opened_says (Err e) desk said is = absurd cc
 
 outside_says : (skip head configures : Bool) (command : Command) (desk : DeskState) (said : Said) → IsSayable command
-    → (let run : Run DeskState Said = if skip then quiet (Ok Nothing) desk else if head then opened (block_of command desk.line) desk else if configures then quiet (Ok Configure) desk else quiet (done_if (is_compiled command) (is_built command) command) desk in run.answer ≡ Ok said)
+    → (let run : Run DeskState Said = if skip then quiet (Ok Nothing) desk else if head then opened (block_of command desk.line) desk else if configures then quiet (Ok Configure) desk else quiet (Ok (done_of command)) desk in run.answer ≡ Ok said)
     → CanBeDone said
 outside_says true head configures command desk said sayable is = subst CanBeDone (let same : Nothing ≡ said = cc in same) tt
 outside_says false true configures command desk said sayable is = opened_says (block_of command desk.line) desk said is
 outside_says false false true command desk said sayable is = subst CanBeDone (let same : Configure ≡ said = cc in same) tt
-outside_says false false false command desk said sayable is = done_says (is_compiled command) (is_built command) command said sayable is
+outside_says false false false command desk said sayable is = done_says (is_compiled command) command said sayable is
 
 inside_says : (ends : Bool) (block : Block) (one other : DeskState) (said : Said) → (let run : Run DeskState Said = if ends then quiet (Ok (Declare block)) one else quiet (Ok Nothing) other in run.answer ≡ Ok said) → CanBeDone said
 inside_says true block one other said is = subst CanBeDone (let same : (let s : Said = Declare block in s ≡ said) = cc in same) tt

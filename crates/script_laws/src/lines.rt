@@ -11,7 +11,7 @@ use base_core::Refusal;
 use class_types::Hooks;
 use command_resolve::{Answer, Resolved};
 use keeper_core::Keeper;
-use session_laws::calls_keep_whole;
+use session_laws::{calls_keep_whole, preparations_keep_sessions_whole};
 use session_load_laws::{readings_keep_sessions_whole, readings_tell_made_objects};
 use session_perform::perform;
 use session_scopes::Session;
@@ -22,6 +22,7 @@ pub fn lines_keep_whole()
     ensures { LinesKeepWhole }
 {
     calls_keep_whole();
+    preparations_keep_sessions_whole();
     readings_keep_sessions_whole();
     readings_tell_made_objects();
 }

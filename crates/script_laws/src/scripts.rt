@@ -2,7 +2,7 @@
 
 ghost use Rattle.script_laws.specs.Scripts.{ScriptsEndWhole, ScriptsHaveOneForEachKey, ScriptsStayWhole};
 
-use session_laws::calls_keep_whole;
+use session_laws::{calls_keep_whole, preparations_keep_sessions_whole};
 use session_load_laws::{readings_keep_sessions_whole, readings_tell_made_objects};
 
 /// Whatever the lines of a script are, fewer than 2^32 of them, and whatever each answers: its session is healthy and whole behind every
@@ -11,6 +11,7 @@ pub fn scripts_stay_whole()
     ensures { ScriptsStayWhole }
 {
     calls_keep_whole();
+    preparations_keep_sessions_whole();
     readings_keep_sessions_whole();
     readings_tell_made_objects();
 }
@@ -21,6 +22,7 @@ pub fn scripts_end_whole()
     ensures { ScriptsEndWhole }
 {
     calls_keep_whole();
+    preparations_keep_sessions_whole();
     readings_keep_sessions_whole();
     readings_tell_made_objects();
 }

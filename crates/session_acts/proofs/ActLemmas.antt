@@ -10,22 +10,23 @@ use Rattle.session_scopes.specs.SessionState.{SessionState}
 use Rattle.session_calls.specs.Calling.{IsSessionCall}
 use Rattle.session_calls.specs.Parts.{World}
 use Rattle.session_calls.proofs.Joining.{err_call, then_call}
-use Rattle.session_acts.specs.Steps.{flush_whole, flushing}
+use Rattle.session_acts.specs.Flush.{flush}
+use Rattle.session_acts.specs.Steps.{flushing}
 
 -- what is asked was refused
 pub asking_refused : {A Y K : Type 0} (moment : K → Moment Store) {v : Y → A} {asked : World → Run World (Unit {0})} (act : World → Run World A) {old new : SessionState × K} {e : Refusal}
     → IsSessionCall moment (λ (u : Unit {0}). u) asked old (Err e) new → IsSessionCall moment v (flushing asked act) old (Err e) new
-asking_refused moment act p = err_call (λ u. flush_whole >>= λ u. act) p
+asking_refused moment act p = err_call (λ u. flush >>= λ u. act) p
 
 -- the flush was refused
 pub flush_refused : {A Y K : Type 0} (moment : K → Moment Store) {v : Y → A} {asked : World → Run World (Unit {0})} (act : World → Run World A) {old mid new : SessionState × K} {x : Unit {0}} {e : Refusal}
-    → IsSessionCall moment (λ (u : Unit {0}). u) asked old (Ok x) mid → IsSessionCall moment (λ (u : Unit {0}). u) flush_whole mid (Err e) new → IsSessionCall moment v (flushing asked act) old (Err e) new
-flush_refused moment act p q = then_call (λ u. flush_whole >>= λ u. act) p (err_call (λ u. act) q)
+    → IsSessionCall moment (λ (u : Unit {0}). u) asked old (Ok x) mid → IsSessionCall moment (λ (u : Unit {0}). u) flush mid (Err e) new → IsSessionCall moment v (flushing asked act) old (Err e) new
+flush_refused moment act p q = then_call (λ u. flush >>= λ u. act) p (err_call (λ u. act) q)
 
 -- all was written, and the act answered or was refused
 pub flushed_then : {A Y K : Type 0} (moment : K → Moment Store) {v : Y → A} {asked : World → Run World (Unit {0})} (act : World → Run World A) {old mid late new : SessionState × K} {x y : Unit {0}} {r : Result Y Refusal}
-    → IsSessionCall moment (λ (u : Unit {0}). u) asked old (Ok x) mid → IsSessionCall moment (λ (u : Unit {0}). u) flush_whole mid (Ok y) late → IsSessionCall moment v act late r new → IsSessionCall moment v (flushing asked act) old r new
-flushed_then moment act p q s = then_call (λ u. flush_whole >>= λ u. act) p (then_call (λ u. act) q s)
+    → IsSessionCall moment (λ (u : Unit {0}). u) asked old (Ok x) mid → IsSessionCall moment (λ (u : Unit {0}). u) flush mid (Ok y) late → IsSessionCall moment v act late r new → IsSessionCall moment v (flushing asked act) old r new
+flushed_then moment act p q s = then_call (λ u. flush >>= λ u. act) p (then_call (λ u. act) q s)
 
 -- some scope is in progress still
 pub deep_still : (old new : List Scope) (r : Result (Unit {0}) Refusal) → OnOk r (new ≡ old) → 0 < length old → OnOk r (0 < length new)

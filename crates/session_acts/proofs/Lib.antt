@@ -1,8 +1,11 @@
 pub mod ActLemmas
+pub mod Clearing
+mod FlushingSteps
 mod Guarding
 mod Outcomes
 mod Planned
-pub mod Ready
+mod ReadingSteps
+mod ReadySteps
 pub mod Savepoints
 mod Steps
 pub mod Unwritten

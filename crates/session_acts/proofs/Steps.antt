@@ -10,7 +10,7 @@ use Rattle.flush_plan.specs.Planning.{plan}
 use Rattle.object_rows.specs.declared.prepared.Prepared.{Prepared}
 use Rattle.row_project.specs.Changes.{project}
 use Rattle.keeper_core.specs.Store.{Store}
-use Rattle.keeper_core.specs.Programs.{◌>>=◌, Run, give}
+use Rattle.keeper_core.specs.Programs.{◌>>=◌, Run}
 use Rattle.keeper_core.specs.Moment.{Moment}
 use Rattle.keeper_core.specs.Beside.{by_own, changes, on_store}
 use Rattle.keeper_core.proofs.Lifting.{lost}
@@ -19,9 +19,10 @@ use Rattle.session_scopes.specs.Scoping.{session_failed}
 use Rattle.session_scopes.specs.SessionState.{AreAlikeButNotes, IsInStep, SameObjects, SessionState, with_notes, with_warnings}
 use Rattle.session_calls.specs.Calling.{IsNotedCall, IsSessionCall}
 use Rattle.session_calls.specs.Parts.{World, roll_back_scope}
-use Rattle.session_calls.proofs.Joining.{change_call, chosen_call, err_call, goes_alike, memory_early, noted_err, noted_then, same_alike, stays_early, still_call, then_call}
+use Rattle.session_calls.proofs.Joining.{change_call, chosen_call, err_call, goes_alike, memory_early, noted_err, noted_then, same_alike, stays_early, then_call}
 use Rattle.session_statements.specs.Run.{send_plan}
-use Rattle.session_acts.specs.Flush.{give_up, prepare, prepared_of, session_flushed, write_objects, write_prepared, write_rows, write_warned}
+use Rattle.prepared_objects.specs.Leaving.{prepared_of}
+use Rattle.session_acts.specs.Flush.{give_up, session_flushed, write_loaded, write_prepared, write_rows, write_warned}
 use Rattle.session_acts.proofs.Planned.{not_planned, planned}
 
 -- the keeper in step with a session that kept its scopes
@@ -65,14 +66,15 @@ module _ {K : Type 0} (moment : K → Moment Store) (prepared : Prepared) (rows 
       (change_call moment (with_warnings rows.warnings) {r = Ok tt} warned tt (same_alike own mid alike) (in_step.0, in_step.1 ∙ sym (ap (λ (s : SessionState). length s.frames.scopes) alike)))
       written
 
-  -- the objects were prepared, and what they change is known
-  pub objects_written : {own now : SessionState} {old new : K} {r : Result (Unit {0}) Refusal} → prepared ≡ prepared_of own.graph → rows ≡ project own.mapping own.graph prepared → IsInStep own (moment old)
-      → IsSessionCall moment (λ (u : Unit {0}). u) (write_warned prepared rows) (own, old) r (now, new) → IsSessionCall moment (λ (u : Unit {0}). u) write_objects (own, old) r (now, new)
-  unfolding write_objects write_prepared prepare
-  objects_written {own = own} {now = now} {old = old} {new = new} {r = r} ready are in_step written =
-      then_call write_prepared (chosen_call moment (λ session. give (prepared_of session.graph)) (still_call moment {v = λ (p : Prepared). p} {x = prepared} (sym ready) in_step))
-      (chosen_call moment (λ session. write_warned prepared (project session.mapping session.graph prepared))
-      (subst (λ (rs : RowChanges). IsSessionCall moment (λ (u : Unit {0}). u) (write_warned prepared rs) (own, old) r (now, new)) are written))
+  -- what is decided of the objects and what they change is known
+  pub loaded_written : {own now : SessionState} {old new : K} {r : Result (Unit {0}) Refusal} → prepared ≡ prepared_of own.mapping own.graph → rows ≡ project own.mapping own.graph prepared
+      → IsSessionCall moment (λ (u : Unit {0}). u) (write_warned prepared rows) (own, old) r (now, new) → IsSessionCall moment (λ (u : Unit {0}). u) write_loaded (own, old) r (now, new)
+  unfolding write_loaded write_prepared
+  loaded_written {own = own} {now = now} {old = old} {new = new} {r = r} ready are written =
+      let Written : Prepared → RowChanges → Type 0 = λ p rs. IsSessionCall moment (λ (u : Unit {0}). u) (write_warned p rs) (own, old) r (now, new) in
+      chosen_call moment (λ session. write_prepared (prepared_of session.mapping session.graph))
+      (chosen_call moment (λ session. write_warned (prepared_of own.mapping own.graph) (project session.mapping session.graph (prepared_of own.mapping own.graph)))
+      (subst (λ (p : Prepared). Written p (project own.mapping own.graph p)) ready (subst (Written prepared) are written)))
 
 -- the innermost scope was rolled back
 pub gave_up : {K : Type 0} (moment : K → Moment Store) (depth : ℕ) {own mid now : SessionState} {old new : K} → depth ≡ length own.frames.scopes → IsNotedCall moment (roll_back_scope depth) (depth - 1) (own, old) (Ok tt) (mid, new)

@@ -1,46 +1,90 @@
 -- Why a session was not written, and what is left then, from one call to the one around it.
-use Rattle.std.proofs.Common.{◌≡◌, ℕ, ◌<◌, true, List, [], ◌∷◌, length, Option, Some, Result, Ok, Err, IfErr, OnOk, refl, subst, arith}
+use Rattle.std.proofs.Common.{◌≡◌, ◌⊎◌, inl, inr, ◌∙◌, ℕ, ◌<◌, true, List, [], ◌∷◌, ◌++◌, length, Option, Result, Ok, Err, IfErr, OnOk, refl, ap, subst, arith}
 use Rattle.std.proofs.lemmas.Result.{IfErr-weaker}
 use Rattle.base_core.specs.declared.refusal.Refusal.{Refusal}
+use Rattle.base_core.specs.declared.refusal.Refusal.TheVariants.{Memory}
 use Rattle.class_mapping.specs.Mapped.{Mapped}
-use Rattle.schema_core.specs.declared.changes.Planned.{Planned}
-use Rattle.schema_core.specs.declared.changes.RowChanges.{RowChanges}
 use Rattle.schema_core.specs.Catalog.{Catalog}
-use Rattle.flush_plan.specs.Planning.{plan}
+use Rattle.keeper_core.specs.declared.notes.Note.{Note}
 use Rattle.keeper_core.specs.declared.sent.Sent.{Sent}
 use Rattle.keeper_core.specs.Store.{Store}
 use Rattle.keeper_core.specs.Programs.{ends_early}
 use Rattle.keeper_core.specs.Moment.{Moment}
-use Rattle.session_statements.specs.Run.{IsCause}
 use Rattle.savepoints.specs.declared.scope.Scope.{Scope}
 use Rattle.session_parts.specs.Depths.{has_scope}
+use Rattle.session_scopes.specs.Loads.{IsLoadedFrom, IsShownIn, loading_in}
 use Rattle.session_scopes.specs.SessionState.{AreAlikeButNotes, SessionState}
 use Rattle.session_calls.specs.Refusals.{Early, entered}
 use Rattle.session_statements.specs.Refusals.{IsRefusedByKeeper}
-use Rattle.session_acts.specs.Outcome.{IsCauseUnder, IsFlushCause, IsFlushed, IsGivenUp, changes_of}
-use Rattle.session_acts.specs.Refusals.{Asked, GivenUp, IsRefusedFlushing, IsRefusedSending, IsUnwritten, Orphaned, Unsent, Unwritten}
-use Rattle.session_acts.specs.Steps.{orphan_fault}
+use Rattle.session_acts.specs.Outcome.{IsFlushCause, IsFlushed, IsGivenUp, IsPreparedFrom, IsShownAsRead, Unprepared, Unsent}
+use Rattle.session_acts.specs.Refusals.{Asked, IsRefusedFlushing, IsRefusedSending, IsUnwritten, Unwritten}
+use Rattle.session_acts.specs.Refusals as refusals
+use Rattle.session_acts.proofs.Outcomes.{WasGivenUp, from_then}
 
 -- ---- a cause, seen from before a call that was refused nothing
 
-cause_under : (schema : Catalog) (rows : RowChanges) (told : Result (List Planned) Refusal) (was late now : Moment Store) (e : Refusal) → late.refusals ≡ was.refusals → IsCauseUnder schema rows told late e now → IsCauseUnder schema rows told was e now
-cause_under schema rows (Ok statements) was late now e is p = subst (λ (n : ℕ). IsCause schema rows statements (record was { refusals = n }) e now) is p
-cause_under schema rows (Err cycle) was late now e is p = p
+shown_since : (old new : SessionState) (was late now : Moment Store) (e : Refusal) → (e ≡ Memory) ⊎ IsShownIn (IsShownAsRead old.mapping) old late new now e → (e ≡ Memory) ⊎ IsShownIn (IsShownAsRead old.mapping) old was new now e
+shown_since old new was late now e (inl memory) = inl memory
+shown_since old new was late now e (inr shown) = inr (record { own = shown.own; graph = shown.graph; taken = shown.taken; shown = by shown.shown })
+  where
+    by : IsShownAsRead old.mapping (loading_in old, late) (shown.own, now) e → IsShownAsRead old.mapping (loading_in old, was) (shown.own, now) e
+    by (inl memory) = inl memory
+    by (inr read) = inr (record { object = read.object; turn = read.turn; since = read.since; next = read.next; cause = read.cause; shown = read.shown })
 
 cause_since : (session : SessionState) (was late now : Moment Store) (e : Refusal) → late.refusals ≡ was.refusals → IsFlushCause session late e now → IsFlushCause session was e now
-cause_since session was late now e is p = cause_under session.mapping.schema (changes_of session) (plan session.mapping.schema (changes_of session)) was late now e is p
+cause_since session was late now e is (Unprepared mid read refused calm) = Unprepared mid read (record { left = refused.left; cause = refused.cause; shown = shown_since session mid was late read e refused.shown }) calm
+cause_since session was late now e is (Unsent mid later from same cause) = Unsent mid later from (same ∙ is) cause
+
+-- ---- before a session that had other notes
+
+module _ (own : SessionState) (earlier : List Note) where
+  loaded_before : (later : List Note) (mid : SessionState) → IsLoadedFrom (record own { notes = earlier }) mid → IsLoadedFrom own (record mid { notes = later })
+  loaded_before later mid left = record {
+    goes = record { mapping = left.goes.mapping; there = left.goes.there; drawn = left.goes.drawn };
+    rest = ap (λ (s : SessionState). record s { notes = later }) left.rest;
+    scopes = left.scopes;
+  }
+
+  prepared_before : (mid : SessionState) → IsPreparedFrom (record own { notes = earlier }) mid → IsPreparedFrom own (record mid { notes = own.notes })
+  prepared_before mid from = record { loaded = loaded_before own.notes mid from.loaded; still = λ none. ap (λ (s : SessionState). record s { notes = own.notes }) (from.still none) }
+
+  cause_before : (was now : Moment Store) (e : Refusal) → IsFlushCause (record own { notes = earlier }) was e now → IsFlushCause own was e now
+  cause_before was now e (Unsent mid late from same cause) = Unsent (record mid { notes = own.notes }) late (prepared_before mid from) same cause
+  cause_before was now e (Unprepared mid late refused calm) = by refused.shown
+    where
+      by : (e ≡ Memory) ⊎ IsShownIn (IsShownAsRead own.mapping) (record own { notes = earlier }) was mid late e → IsFlushCause own was e now
+      by (inl memory) = Unprepared (record mid { notes = own.notes }) late (record { left = loaded_before own.notes mid refused.left; cause = refused.cause; shown = inl memory }) calm
+      by (inr shown) =
+          let later : List Note = own.notes ++ shown.own.notes in
+          Unprepared (record mid { notes = later }) late
+          (record {
+            left = loaded_before later mid refused.left;
+            cause = refused.cause;
+            shown = inr (record { own = shown.own; graph = shown.graph; taken = λ on. ap (λ (s : SessionState). record s { notes = later }) (shown.taken on); shown = shown.shown });
+          })
+          calm
+
+  flushed_before : (new : SessionState) → IsFlushed (record own { notes = earlier }) new → IsFlushed own new
+  flushed_before new (mid, from, written) = (record mid { notes = own.notes }, prepared_before mid from, written)
+
+  given_before : (e : Refusal) (new : SessionState) → IsGivenUp e (record own { notes = earlier }) new → IsGivenUp e own new
+  given_before e new left = from_then (WasGivenUp (record own { notes = earlier }) new) (WasGivenUp own new) (ends_early e) by left
+    where
+      by : WasGivenUp (record own { notes = earlier }) new → WasGivenUp own new
+      by (mid, loaded, given) = (record mid { notes = own.notes }, loaded_before own.notes mid loaded, given)
 
 -- ---- a session that was not written
 
 unwritten_since : (own mid new : SessionState) (was late now : Moment Store) (e : Refusal) → AreAlikeButNotes own mid → late.refusals ≡ was.refusals → IsUnwritten mid late e new now → IsUnwritten own was e new now
-unwritten_since own mid new was late now e alike none (Orphaned is left) = Orphaned (subst (λ (s : SessionState). orphan_fault s ≡ Some e) alike is) (subst (λ (s : SessionState). AreAlikeButNotes s new) alike left)
-unwritten_since own mid new was late now e alike none (GivenUp cause left) =
-    GivenUp (cause_since own was late now e none (subst (λ (s : SessionState). IsFlushCause s late e now) alike cause)) (subst (λ (s : SessionState). IsGivenUp e s new) alike left)
+unwritten_since own mid new was late now e alike none p = record {
+  cause = cause_since own was late now e none (cause_before own mid.notes late now e (subst (λ (s : SessionState). IsFlushCause s late e now) alike p.cause));
+  left = given_before own mid.notes e new (subst (λ (s : SessionState). IsGivenUp e s new) alike p.left);
+}
 
 -- its flush was refused
 pub given_up_for : (own new : SessionState) (was now : Moment Store) (r : Result (Unit {0}) Refusal) → IfErr r (λ e. IsGivenUp e own new) → IfErr r (λ e. IsFlushCause own was e now) → IfErr r (λ e. IsUnwritten own was e new now)
 given_up_for own new was now (Ok u) left cause = tt
-given_up_for own new was now (Err e) left cause = GivenUp cause left
+given_up_for own new was now (Err e) left cause = record { cause = cause; left = left }
 
 -- in the transaction that a call entered
 pub not_written : (before inside : Option Refusal) (own mid new : SessionState) (was late now : Moment Store) (e : Refusal) → AreAlikeButNotes (entered own) mid → late.refusals ≡ was.refusals → IsUnwritten mid late e new now → IsRefusedFlushing before inside own was e new now
@@ -59,7 +103,7 @@ act_stopped before inside own new was now r stops =
 -- ---- a session that was written
 
 pub written_since : (own mid new : SessionState) → AreAlikeButNotes own mid → IsFlushed mid new → IsFlushed own new
-written_since own mid new alike p = subst (λ (s : SessionState). IsFlushed s new) alike p
+written_since own mid new alike p = flushed_before own mid.notes new (subst (λ (s : SessionState). IsFlushed s new) alike p)
 
 pub flushed_since : (own mid new : SessionState) (r : Result (Unit {0}) Refusal) → AreAlikeButNotes own mid → OnOk r (IsFlushed mid new) → OnOk r (IsFlushed own new)
 flushed_since own mid new (Ok u) alike p = written_since own mid new alike p
@@ -70,7 +114,7 @@ pub not_sent : {X : Type 0} (before inside : Option Refusal) (statement : Sent) 
     → IfErr r (λ e. IsRefusedByKeeper statement (may mid.mapping.schema) mid late e new now) → IfErr r (λ e. IsRefusedSending before inside statement (may own.mapping.schema) own was e new now)
 not_sent before inside statement may own mid new was late now r flushed same none p =
     IfErr-weaker r (λ e. IsRefusedByKeeper statement (may mid.mapping.schema) mid late e new now) (λ e. IsRefusedSending before inside statement (may own.mapping.schema) own was e new now)
-    (λ e by. Unsent mid flushed
+    (λ e by. refusals.Unsent mid flushed
     (subst (λ (n : ℕ). IsRefusedByKeeper statement (may own.mapping.schema) mid (record was { refusals = n }) e new now) none
     (subst (λ (m : Mapped). IsRefusedByKeeper statement (may m.schema) mid late e new now) same by)))
     p

@@ -1,18 +1,12 @@
 -- The session's calls that flush, each as a program of the store and of the session beside it: what is asked, the flush, and the act.
-use Rattle.std.specs.Prelude.{◌≡◌, ℕ, Bool, false, ◌&&◌, ◌||◌, List, Option}
-use Rattle.std.specs.List.{list_any}
-use Rattle.base_core.specs.declared.refusal.Refusal.{Refusal}
-use Rattle.base_core.specs.declared.refusal.Refusal.TheVariants.{NotBuilt}
+use Rattle.std.specs.Prelude.{◌≡◌, ℕ, false, List}
 use Rattle.base_core.specs.declared.value.Value.{Value}
-use Rattle.object_arena.specs.declared.object.Object.{Object}
-use Rattle.object_arena.specs.Graph.{is_pending, is_persistent}
 use Rattle.schema_core.specs.Catalog.{Catalog}
 use Rattle.expr_types.specs.declared.select.Bulk.{Bulk}
 use Rattle.expr_types.specs.declared.select.Select.{Select}
 use Rattle.sql_semantics.specs.Plain.{IsPlainBulk}
 use Rattle.keeper_core.specs.Programs.{Run, ◌>>=◌}
-use Rattle.session_scopes.specs.SessionState.{SessionState}
-use Rattle.session_calls.specs.Parts.{World, checked, fault_if}
+use Rattle.session_calls.specs.Parts.{World}
 use Rattle.session_calls.specs.Steps.{enter}
 use Rattle.session_acts.specs.Flush.{flush}
 use Rattle.session_acts.specs.Savepoints.{begin_savepoint, check_handle, commit_whole, enter_nested, release_handle}
@@ -20,21 +14,9 @@ use Rattle.session_statements.specs.Steps as statements
 
 -- ---- the flush
 
--- the object is to be written or is persistent, and its parent has left it
-abbrev pub is_waiting_orphan : Object → Bool
-is_waiting_orphan object = (is_pending object.state || is_persistent object.state) && object.orphan
-
--- a flush that has to delete orphans is not built
-abbrev pub orphan_fault : SessionState → Option Refusal
-orphan_fault session = fault_if (list_any is_waiting_orphan session.graph.objects) NotBuilt
-
--- what is to be written is written, unless an orphan waits
-unfoldable pub flush_whole : World → Run World (Unit {0})
-flush_whole = checked orphan_fault >>= λ u. flush
-
 -- what is to be written is written, in the transaction
 unfoldable pub flush_now : World → Run World (Unit {0})
-flush_now = enter >>= λ u. flush_whole
+flush_now = enter >>= λ u. flush
 
 -- all is written, and the transaction is committed with its savepoints
 unfoldable pub commit : World → Run World (Unit {0})
@@ -48,7 +30,7 @@ rows select = flush_now >>= λ u. statements.rows select
 
 -- what is asked, then what is to be written is written, and then the act
 abbrev pub flushing : {A : Type 0} → (World → Run World (Unit {0})) → (World → Run World A) → World → Run World A
-flushing asked act = asked >>= λ u. (flush_whole >>= λ u. act)
+flushing asked act = asked >>= λ u. (flush >>= λ u. act)
 
 -- all is written, and a savepoint begins, whose handle is answered
 unfoldable pub begin_nested : World → Run World ℕ

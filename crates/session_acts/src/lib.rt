@@ -9,10 +9,10 @@ mod flushing;
 mod inner_scopes;
 mod nesting;
 mod preparing;
+mod reading;
 mod statements;
 mod store;
 mod transaction;
-mod whole;
 mod writing;
 
 pub use asking::enter_nested;
@@ -22,4 +22,3 @@ pub use inner_scopes::{begin_savepoint, commit_transaction, release_many};
 pub use nesting::{begin_nested, commit_handle};
 pub use statements::{bulk, rows};
 pub use transaction::{commit, flush_now};
-pub use whole::flush_whole;

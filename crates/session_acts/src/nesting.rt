@@ -11,8 +11,7 @@ ghost use Rattle.session_acts.specs.Refusals.{IsRefusedFlushing};
 ghost use Rattle.session_acts.specs.Steps as steps;
 
 use crate::asking::release_fault;
-use crate::whole::flush_whole;
-use crate::{begin_savepoint, enter_nested, release_handle};
+use crate::{begin_savepoint, enter_nested, flush, release_handle};
 use base_core::Refusal;
 use keeper_core::Keeper;
 use session_scopes::Session;
@@ -32,7 +31,7 @@ pub fn begin_nested<K: Keeper>(session: &mut Session, keeper: &mut K) -> Result<
         session.old (K.moment keeper.old) e session.new (K.moment keeper.new)) }
 {
     enter_nested(session, keeper)?;
-    flush_whole(session, keeper)?;
+    flush(session, keeper)?;
     begin_savepoint(session, keeper)
 }
 
@@ -56,6 +55,6 @@ pub fn commit_handle<K: Keeper>(
     if let Some(fault) = release_fault(session, handle) {
         return Err(fault);
     }
-    flush_whole(session, keeper)?;
+    flush(session, keeper)?;
     release_handle(session, keeper, handle)
 }

@@ -12,8 +12,7 @@ ghost use Rattle.session_statements.specs.Steps.{update_fault};
 ghost use Rattle.session_acts.specs.Refusals.{IsRefusedSending};
 ghost use Rattle.session_acts.specs.Steps as steps;
 
-use crate::transaction::flush_now;
-use crate::whole::flush_whole;
+use crate::{flush, flush_now};
 use base_core::{Refusal, RowList};
 use expr_types::{Bulk, Select};
 use keeper_core::Keeper;
@@ -67,6 +66,6 @@ pub fn bulk<K: Keeper>(
         session.old (K.moment keeper.old) e session.new (K.moment keeper.new)) }
 {
     enter_bulk(session, keeper, statement)?;
-    flush_whole(session, keeper)?;
+    flush(session, keeper)?;
     statements::bulk(session, keeper, statement)
 }

@@ -9,8 +9,7 @@ ghost use Rattle.session_acts.specs.Outcome.{IsFlushed};
 ghost use Rattle.session_acts.specs.Refusals.{IsRefusedFlushing};
 ghost use Rattle.session_acts.specs.Steps as steps;
 
-use crate::commit_whole;
-use crate::whole::flush_whole;
+use crate::{commit_whole, flush};
 use base_core::Refusal;
 use keeper_core::Keeper;
 use session_calls::enter;
@@ -32,7 +31,7 @@ pub fn flush_now<K: Keeper>(session: &mut Session, keeper: &mut K) -> Result<(),
         session.old (K.moment keeper.old) e session.new (K.moment keeper.new)) }
 {
     enter(session, keeper)?;
-    flush_whole(session, keeper)
+    flush(session, keeper)
 }
 
 /// Writes what is to be written, ends all savepoints and commits the transaction. Every persistent object is expired then.

@@ -38,6 +38,6 @@ abbrev pub fault_in : {A : Type 0} → Result A Refusal → Option Refusal
 fault_in (Ok value) = None
 fault_in (Err fault) = Some fault
 
--- the object is not to be deleted
+-- only a persistent object is deleted
 abbrev pub mark_fault : ObjId → SessionState → Option Refusal
 mark_fault object session = delete_fault (object_at session.graph object)

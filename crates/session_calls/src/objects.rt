@@ -86,11 +86,11 @@ pub fn value_fault(session: &Session, object: ObjId, attr: AttrNo, value: &Value
     Some(Refusal::TypeMismatch(wanted, found))
 }
 
-/// The next flush deletes a persistent object. It is touched in the innermost scope where its record comes to differ.
+/// The next flush deletes a persistent object, with the objects that deletes go on to from it then. It is touched in the innermost
+/// scope where its record comes to differ.
 ///
 /// # Errors
-/// `PendingRollbackError` while a failed flush waits for its rollback; then, in the transaction,
-/// `InvalidRequestError(NotPersistent)`, and `NotBuilt` where a cell is expired or its row's value is not known.
+/// `PendingRollbackError` while a failed flush waits for its rollback; then, in the transaction, `InvalidRequestError(NotPersistent)`.
 pub fn delete<K: Keeper>(
     session: &mut Session,
     keeper: &mut K,

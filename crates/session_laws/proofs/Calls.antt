@@ -1,4 +1,5 @@
 pub mod Adding
+pub mod Leaving
 pub mod Nesting
 pub mod Making
 pub mod Writing

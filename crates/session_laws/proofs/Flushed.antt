@@ -99,7 +99,7 @@ old_settled : (written : Written) (object : ObjId) (it : Object) (gone : Bool) �
 old_settled written object it true = refl
 old_settled written object it false = under_settled written object it.identity
 
-settled_in : (written : Written) (object : ObjId) (it : Object) (state : State) → it.state ≡ state → is_pending (object_in state written object it).state ≡ false
+pub settled_in : (written : Written) (object : ObjId) (it : Object) (state : State) → it.state ≡ state → is_pending (object_in state written object it).state ≡ false
 settled_in written object it Transient is = ap is_pending is
 settled_in written object it Pending is = new_settled written object it (key_of written object)
 settled_in written object it Persistent is = old_settled written object it (is_among written.prepared.deleted object)

@@ -3,8 +3,11 @@ pub mod Again
 pub mod Answered
 pub mod Events
 pub mod Flushing
+pub mod GivenBack
 pub mod Kept
 pub mod LawProofs
 pub mod Legal
+pub mod Reached
+pub mod Reading
 pub mod Sending
 pub mod Telling

@@ -1,3 +1,4 @@
+pub mod Bridge
 pub mod Calls
 pub mod Complete
 pub mod Configured
@@ -11,6 +12,7 @@ pub mod Links
 pub mod Loads
 pub mod OwnRows
 pub mod Plans
+pub mod Preparing
 pub mod Projects
 pub mod Scopes
 pub mod Sendable

@@ -1,4 +1,3 @@
-pub mod Adding
 pub mod Answered
 pub mod One
 pub mod Refused

@@ -3,6 +3,7 @@ pub mod Keyed
 pub mod Linked
 pub mod Keeping
 pub mod Programs
+pub mod Reads
 pub mod Handled
 pub mod Calls
 pub mod Since

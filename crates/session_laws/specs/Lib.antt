@@ -12,6 +12,7 @@ pub mod Links
 pub mod Loads
 pub mod OwnRows
 pub mod Plans
+pub mod Preparing
 pub mod Projects
 pub mod Scopes
 pub mod Sendable

@@ -1,5 +1,5 @@
 -- What a load leaves of the objects of a session, and what sessions keep across loads.
-use Rattle.std.specs.Prelude.{◌≡◌, ◌⊎◌, ℕ, ◌<◌, ◌≤◌, true, List, [], length, unwrap_or, Option, None, Some}
+use Rattle.std.specs.Prelude.{◌≡◌, ◌⊎◌, ℕ, ◌<◌, ◌≤◌, true, List, [], length, unwrap_or, Option, Some}
 use Rattle.std.specs.List.{Contains}
 use Rattle.base_core.specs.declared.ids.AttrNo.{AttrNo}
 use Rattle.base_core.specs.declared.ids.ObjId.{ObjId}
@@ -9,7 +9,7 @@ use Rattle.schema_core.specs.Tables.{Tables}
 use Rattle.object_arena.specs.declared.object.Cell.{Cell}
 use Rattle.object_arena.specs.declared.object.Object.{Object}
 use Rattle.object_arena.specs.Fit.{IsFit}
-use Rattle.object_arena.specs.Graph.{Graph, cell_in, expired_cell, place_of}
+use Rattle.object_arena.specs.Graph.{Graph, cell_in, place_of}
 use Rattle.object_arena.specs.Identity.{IsGraph}
 use Rattle.keeper_core.specs.declared.notes.Note.{Note}
 use Rattle.keeper_core.specs.declared.notes.Note.TheVariants.{Filled}
@@ -18,6 +18,8 @@ use Rattle.keeper_core.specs.Programs.{Run}
 use Rattle.load_filling.specs.Growing.{Grows}
 use Rattle.load_filling.specs.Loaded.{loaded_object}
 use Rattle.load_rows.specs.Loading.{Loading}
+use Rattle.load_steps.specs.Loaded.{IsReadCell}
+use Rattle.preparing_laws.specs.Reread.{IsRereadCell}
 use Rattle.savepoints.specs.Scopes.{Framed, is_touched}
 use Rattle.session_scopes.specs.Loads.{frames_filled, loading_in, on_load, with_loaded}
 use Rattle.session_scopes.specs.SessionState.{GoesOn, SessionState, in_transaction}
@@ -33,27 +35,7 @@ use Rattle.session_laws.specs.Whole.{IsHale, IsKeyed}
 abbrev pub row_value : Mapped → Tables → Object → AttrNo → Option Value
 row_value mapped tables object attr = in_row (attribute_of mapped object.class attr) (row_for tables (attribute_of mapped object.class attr) (Some (unwrap_or object.identity [])))
 
--- a cell was expired, and holds what was found of it, with nothing to be written
-pub record IsFilledCell (found : Option Value) (was now : Cell) : Type 0 where
-  pub held : Value
-  pub is : found ≡ Some held
-  pub expired : was.value ≡ None
-  pub even : now ≡ record { value = Some held; base = Some held }
-
--- a cell stays, or what its row has was read into it
-abbrev pub IsReadCell : Option Value → Cell → Cell → Type 0
-IsReadCell found was now = (now ≡ was) ⊎ IsFilledCell found was now
-
--- the row's value of a cell was not known, and the cell is left as an expired one is
-pub record IsLostCell (found : Option Value) (was now : Cell) : Type 0 where
-  pub unknown : was.base ≡ None
-  pub left : IsReadCell found expired_cell now
-
--- a cell is read, or what was put into it is lost: so it is where all that is to be known of an object is read
-abbrev pub IsRereadCell : Option Value → Cell → Cell → Type 0
-IsRereadCell found was now = IsReadCell found was now ⊎ IsLostCell found was now
-
--- an object of which at most cells were read so, and links loaded
+-- an object of which at most cells were read so, and links loaded: by a load, or where all that is to be known of it is read anew
 pub record IsReadBy (IsCell : Option Value → Cell → Cell → Type 0) (mapped : Mapped) (tables : Tables) (was now : Object) : Type 0 where
   pub rest : now ≡ record was { cells = now.cells; links = now.links }
   pub long : length now.cells ≡ length was.cells

@@ -38,6 +38,7 @@ IsCallOf (Call.Make class given) world = IsClass world.own.mapping class × AllB
 IsCallOf (Call.Add object) world = IsObject world.own.graph object
 IsCallOf (Call.Set object attr value) world = IsObject world.own.graph object × IsAttribute world.own.mapping (object_at world.own.graph object).class attr
 IsCallOf (Call.Delete object) world = IsObject world.own.graph object
+IsCallOf (Call.Expunge object) world = IsObject world.own.graph object
 IsCallOf (Call.ChangeLink owner place call) world = IsLinkCall world.own.mapping world.own.graph owner place call
 IsCallOf (Call.Write statement) world = IsPlainButForKeys world.own.mapping.schema statement
 IsCallOf call world = Unit {0}
@@ -47,9 +48,9 @@ abbrev pub AreCallsOf : Rules → List Call → World → Type 0
 AreCallsOf rules [] world = Unit {0}
 AreCallsOf rules (call ∷ calls) world = IsCallOf call world × AreCallsOf rules calls (after_call rules call world)
 
--- over classes of any form, whatever is called, and whatever is answered, objects go on to fit
+-- over classes of any form, whatever is called of a healthy session that is whole, and whatever is answered, objects go on to fit
 abbrev pub CallsKeepFit : Type 0
-CallsKeepFit = (rules : Rules) (calls : List Call) (world : World) → IsKeyed world.own → AreCallsOf rules calls world → IsKeyed (after_calls rules calls world).own
+CallsKeepFit = (rules : Rules) (calls : List Call) (world : World) → IsHale world → AreCallsOf rules calls world → IsKeyed (after_calls rules calls world).own
 
 -- whatever is called, and whatever is answered, legal tables are left legal, those at the start of each scope too
 abbrev pub CallsKeepLegal : Type 0

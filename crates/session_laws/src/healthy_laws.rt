@@ -17,7 +17,10 @@ ghost use Rattle.session_scopes.specs.SessionState.{SessionState, new_session};
 ghost use Rattle.session_laws.specs.Health.Calls.{CallsKeepHealth, CallsKeepOne};
 ghost use Rattle.session_laws.specs.Health.Health.{IsHealthy, KeepsHealthWhole};
 
-use crate::{a_flush_keeps_a_told_session_sound, an_answered_flush_of_a_told_session_leaves_sound};
+use crate::{
+    a_flush_keeps_a_told_session_sound, an_answered_flush_of_a_told_session_leaves_sound,
+    preparations_keep_sessions_whole,
+};
 use keeper_core::Keeper;
 
 #[tactic(auto, using(crate::proofs::Health::Calls::new_healthy))]
@@ -36,6 +39,7 @@ pub fn flushing_calls_keep_health()
     ensures commit { KeepsHealthWhole acts.commit }
     ensures nested { KeepsHealthWhole acts.begin_nested }
 {
+    preparations_keep_sessions_whole();
     a_flush_keeps_a_told_session_sound();
     an_answered_flush_of_a_told_session_leaves_sound();
 }
@@ -45,6 +49,7 @@ pub fn flushing_calls_keep_health()
 pub fn calls_keep_health()
     ensures { CallsKeepHealth }
 {
+    preparations_keep_sessions_whole();
     a_flush_keeps_a_told_session_sound();
     an_answered_flush_of_a_told_session_leaves_sound();
 }

@@ -15,6 +15,7 @@ mod link_laws;
 mod load_laws;
 mod order;
 mod own_row_laws;
+mod preparation_laws;
 mod project_laws;
 mod scope_laws;
 mod second_flush_laws;
@@ -29,8 +30,7 @@ mod whole_laws;
 mod worked;
 
 pub use complete_laws::{
-    flushes_are_built, flushes_leave_the_stated_rows, stated_links_are_written,
-    stated_objects_are_written,
+    flushes_are_built, flushes_leave_the_stated_rows, stated_objects_are_written,
 };
 pub use configured_laws::{plain_classes, well_mapped_tables};
 pub use graph_laws::{
@@ -56,6 +56,7 @@ pub use load_laws::{
 };
 pub use order::{numbers_are_by_place, order_or_cycle, runs_are_longest, runs_are_whole};
 pub use own_row_laws::{objects_have_own_rows, pairs_are_once};
+pub use preparation_laws::preparations_keep_sessions_whole;
 pub use project_laws::{
     changed_cells_are_in_order, found_cells_are_known, gone_rows_are_whole, key_parts_are_foreign,
     late_keys_are_fit, new_rows_are_whole, new_rows_have_keys, passed_keys_are_switched,
@@ -69,8 +70,8 @@ pub use sound_calls::{
     statements_keep_sound,
 };
 pub use sound_flush_laws::{
-    a_flush_keeps_a_told_session_sound, a_flush_that_deletes_nothing_keeps_sound,
-    a_refused_flush_leaves_sound, an_answered_flush_of_a_told_session_leaves_sound,
+    a_flush_keeps_a_told_session_sound, a_refused_flush_leaves_sound,
+    an_answered_flush_of_a_told_session_leaves_sound,
 };
 pub use sound_sessions::{
     a_new_session_is_sound, calls_on_objects_keep_sound, closing_keeps_sound, entering_keeps_sound,

@@ -22,23 +22,25 @@ pub fn a_told_flush_is_its_run<K: Keeper>()
         → law.IsRunOf (law.world_of own told) told.log now (K.moment new).told }
 {}
 
-/// A flush that answers has sent its plan whole, and each statement was accepted by the tables that those before it left.
+/// A flush that answers has read what is to be known of the objects that are to be deleted, and then sent the plan of what the objects
+/// change whole; each statement was accepted by the tables that those before it left.
 pub fn a_flush_sends_its_plan()
     ensures { law.SendsItsPlan }
 {}
 
-/// What a flush that answers sends is the statements of its plan, in order, each with the keys that are known by then, and no more.
+/// What a flush that answers sends is the selects of what it reads, and the statements of its plan, in order, each with the keys that are
+/// known by then, and no more.
 pub fn a_flush_sends_planned_statements()
     ensures { law.SendsPlannedStatements }
 {}
 
-/// A flush for which there is a plan, each statement of which fits the schema and is accepted by the tables so far, answers, and leaves
-/// the tables of that.
+/// A flush whose reading answers, and for which there is a plan then, each statement of which fits the schema and is accepted by the tables
+/// so far, answers, and leaves the tables of that.
 pub fn an_accepted_flush_answers()
     ensures { law.AnswersWhereAccepted }
 {}
 
-/// A flush right after one that answers sends nothing, and answers, where only persistent objects were marked.
+/// A flush right after one that answers reads and sends nothing, and answers, where only persistent objects were marked.
 pub fn a_second_flush_sends_nothing()
     ensures { law.SendsNothingAgain }
 {}

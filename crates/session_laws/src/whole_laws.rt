@@ -6,7 +6,10 @@ ghost use Rattle.class_mapping.specs.Mapped.{Mapped};
 ghost use Rattle.session_laws.specs.Graphs.{IsWellMapped};
 ghost use Rattle.session_laws.specs.Whole.{CallsKeepFit, CallsKeepLegal, CallsKeepWhole, IsHale, SessionsHaveOneForEachKey, new_world};
 
-use crate::{a_flush_keeps_a_told_session_sound, an_answered_flush_of_a_told_session_leaves_sound};
+use crate::{
+    a_flush_keeps_a_told_session_sound, an_answered_flush_of_a_told_session_leaves_sound,
+    preparations_keep_sessions_whole,
+};
 
 #[tactic(auto, using(crate::proofs::Whole::Calls::new_whole))]
 /// A new session over a configured mapping is whole beside a store without tables.
@@ -14,12 +17,14 @@ pub fn a_new_session_is_whole()
     ensures { (mapping : Mapped) → IsWellMapped mapping → IsHale (new_world mapping) }
 {}
 
-/// Over every configured mapping, with links, classes of several tables and discriminators: whatever calls are made one after another, of
-/// classes, attributes, relationships and objects that are there, and whatever each answers, the objects go on to fit their classes,
-/// and their links the relationships of these.
+/// Over every configured mapping, with links, classes of several tables and discriminators: whatever calls are made one after another of a
+/// healthy session that is whole, of classes, attributes, relationships and objects that are there, and whatever each answers, the
+/// objects go on to fit their classes, and their links the relationships of these.
 pub fn calls_keep_objects_fitting()
     ensures { CallsKeepFit }
-{}
+{
+    calls_keep_whole();
+}
 
 /// Whatever calls are made one after another, and whatever each answers, legal tables are left legal, those at the start of each scope in
 /// progress too: of the session's objects nothing is asked but that the calls name what is there.
@@ -32,6 +37,7 @@ pub fn calls_keep_tables_legal()
 pub fn calls_keep_whole()
     ensures { CallsKeepWhole }
 {
+    preparations_keep_sessions_whole();
     a_flush_keeps_a_told_session_sound();
     an_answered_flush_of_a_told_session_leaves_sound();
 }

@@ -22,13 +22,14 @@ use Rattle.session_scopes.specs.Loads.{on_load}
 use Rattle.session_scopes.specs.SessionState.{SessionState}
 use Rattle.session_calls.specs.Parts.{World, checked}
 use Rattle.session_calls.specs.Steps.{enter}
-use Rattle.session_acts.specs.Steps.{flush_whole}
+use Rattle.session_acts.specs.Flush.{flush}
 use Rattle.session_loads.specs.Asking.{is_persistent_in, persistence_fault}
 use Rattle.session_loads.specs.Expiring.{session_expired}
 use Rattle.session_loads.specs.Reads.{fill_anew, read_anew, refresh, refresh_inside, refresh_written}
 use Rattle.session_loads.specs.Rows.{attrs_of, fill_row, if_there, read_row}
 use Rattle.session_loads.proofs.RowLemmas.{all_attributes}
 use Rattle.session_laws.specs.Loads.{loading_of}
+use Rattle.session_laws.specs.Preparing.{PreparationsLeaveReread}
 use Rattle.session_laws.specs.Sound.{EachObject, IsSettled}
 use Rattle.session_laws.specs.Whole.{IsHale}
 use Rattle.session_laws.proofs.Health.Acts.{FlushLeavesSound, FlushWritesAll, IsInside, IsLed, flush_led, led_checked, led_then, some_scopes}
@@ -86,7 +87,7 @@ led_on : {A B : Type 0} (P R : World → Type 0) (m : World → Run World A) (ne
 unfolding ◌>>=◌
 led_on P R m next w here later = on_from P R (m w).events (m w).after (m w).answer next here later
 
-module _ (selects : SelectsAnswerTableRows) (owns : OwnSelectsAnswerTableRows) (mains : MainSelectsAnswerTableRows) (keeps : FlushLeavesSound) (answers : FlushWritesAll) (first : SessionState) (object : ObjId) (made : IsObject first.graph object) where
+module _ (selects : SelectsAnswerTableRows) (owns : OwnSelectsAnswerTableRows) (mains : MainSelectsAnswerTableRows) (reads : PreparationsLeaveReread) (keeps : FlushLeavesSound) (answers : FlushWritesAll) (first : SessionState) (object : ObjId) (made : IsObject first.graph object) where
   -- in the transaction
   abbrev Within : World → Type 0
   Within = IsWithin first
@@ -175,25 +176,25 @@ module _ (selects : SelectsAnswerTableRows) (owns : OwnSelectsAnswerTableRows) (
       (λ none. record { written = it; standing = ((it.within.goes.there object made).0, persistent_is (object_at w.own.graph object).state (passed (is_persistent_in object w.own) _ none)) }))
       (λ u ready. read_led (checked (persistence_fault object) w).after ready)
 
-  flush_written : (w : World) → Within w → IsLed Going Written (flush_whole w)
+  flush_written : (w : World) → Within w → IsLed Going Written (flush w)
   flush_written w it =
-      let going = flush_going keeps answers first w it in
+      let going = flush_going reads keeps answers first w it in
       let inside : IsInside w.own.mapping w =
       record { healthy = it.hale.healthy; fit = it.hale.keyed.fit; well = record { handled = it.hale.handled; well = it.awake }; inside = some_scopes w.own.frames.scopes it.opened; same = refl } in
-      let done = flush_led keeps answers w.own.mapping w inside in
+      let done = flush_led reads keeps answers w.own.mapping w inside in
       record { here = going.here; told = λ u is. record { within = going.told u is; written = (done.told u is).committable.written } }
 
   pub inside_led : (w : World) → Within w → IsLed Going Within (refresh_inside object w)
   unfolding refresh_inside
   inside_led w it =
-      led_then Going Within Within (checked (persistence_fault object)) (λ u. flush_whole >>= λ u. refresh_written object) w (led_checked Going Within (persistence_fault object) w (going_of it) (λ none. it))
+      led_then Going Within Within (checked (persistence_fault object)) (λ u. flush >>= λ u. refresh_written object) w (led_checked Going Within (persistence_fault object) w (going_of it) (λ none. it))
       (λ u again.
       let v : World = (checked (persistence_fault object) w).after in
-      led_then Going Written Within flush_whole (λ u. refresh_written object) v (flush_written v again) (λ u done. written_led (flush_whole v).after done))
+      led_then Going Written Within flush (λ u. refresh_written object) v (flush_written v again) (λ u done. written_led (flush v).after done))
 
 -- ---- the call
 
-pub refresh_hale : SelectsAnswerTableRows → OwnSelectsAnswerTableRows → MainSelectsAnswerTableRows → FlushLeavesSound → FlushWritesAll → (object : ObjId) (w : World) → IsObject w.own.graph object → IsHale w → IsGoing w.own (refresh object w).after
+pub refresh_hale : SelectsAnswerTableRows → OwnSelectsAnswerTableRows → MainSelectsAnswerTableRows → PreparationsLeaveReread → FlushLeavesSound → FlushWritesAll → (object : ObjId) (w : World) → IsObject w.own.graph object → IsHale w → IsGoing w.own (refresh object w).after
 unfolding refresh
-refresh_hale selects owns mains keeps answers object w made hale =
-    (led_then (IsGoing w.own) (IsWithin w.own) (IsWithin w.own) enter (λ u. refresh_inside object) w (enter_going w hale) (λ u it. inside_led selects owns mains keeps answers w.own object made (enter w).after it)).here
+refresh_hale selects owns mains reads keeps answers object w made hale =
+    (led_then (IsGoing w.own) (IsWithin w.own) (IsWithin w.own) enter (λ u. refresh_inside object) w (enter_going w hale) (λ u it. inside_led selects owns mains reads keeps answers w.own object made (enter w).after it)).here

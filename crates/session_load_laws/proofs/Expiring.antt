@@ -1,4 +1,4 @@
--- A whole session of which nothing is to be written stays whole where objects of it are expired.
+-- A whole session stays whole where objects of it are expired.
 use Rattle.std.proofs.Common.{◌≡◌, ◌-◌, Bool, true, false, List, [], ◌∷◌, length, Option, None, Some, refl, sym, ap, ◌∙◌, subst, arith}
 use Rattle.std.specs.Prelude.{unwrap_or}
 use Rattle.std.specs.List.{AllByRecursion}
@@ -31,7 +31,7 @@ use Rattle.session_loads.specs.Rows.{all_attrs, attrs_of}
 use Rattle.session_laws.specs.Sound.{IsFresh, IsMarkedRight, IsSettled, IsWritten}
 use Rattle.session_laws.specs.Whole.{IsHale}
 use Rattle.session_laws.proofs.Health.Named.{each_with}
-use Rattle.session_laws.proofs.Health.Sessions.{if_named, if_orderly, if_settled, put_orderly}
+use Rattle.session_laws.proofs.Health.Sessions.{if_keyed, if_named, if_settled, put_orderly}
 use Rattle.session_laws.proofs.Sound.Changes.{changed_sound}
 use Rattle.session_laws.proofs.Sound.Everyone.{expired_cells}
 use Rattle.session_laws.proofs.Sound.Touches.{between_scopes}
@@ -68,12 +68,7 @@ if_fits mapped roots false o fits = fits
 
 -- ---- one object of a session
 
--- a whole session in its transaction of which nothing is to be written, that has gone on from a first one
-pub record IsWrittenWithin (first : SessionState) (w : World) : Type 0 where
-  pub within : IsWithin first w
-  pub written : IsWritten w
-
-one_within : (first : SessionState) (store : Store) (object : ObjId) (own : SessionState) → IsWrittenWithin first (record { own = own; store = store }) → IsWrittenWithin first (record { own = with_expired object own; store = store })
+pub one_within : (first : SessionState) (store : Store) (object : ObjId) (own : SessionState) → IsWithin first (record { own = own; store = store }) → IsWithin first (record { own = with_expired object own; store = store })
 one_within first store object own it =
     let o : Object = object_at own.graph object in
     let is_read : Bool = is_persistent o.state in
@@ -81,33 +76,41 @@ one_within first store object own it =
     let graph : Graph = with_object own.graph object new in
     let same : held new ≡ held o = if_held is_read o in
     let class : new.class ≡ o.class = ap (λ (h : Held). h.0) same in
-    let hale : IsHale (record { own = own; store = store }) = it.within.hale in
+    let hale : IsHale (record { own = own; store = store }) = it.hale in
     let sound = hale.healthy.sound in
     let orderly = hale.healthy.tidy.own in
     let scopes : (with_expired object own).frames.scopes ≡ own.frames.scopes = between_scopes own.graph graph own.frames in
     record {
-      within = record {
-        hale = record {
-          healthy = record {
-            sound =
-                changed_sound own store graph it.within.opened (length-set own.graph.objects (place_of object) new) refl
-                (graph_put own.graph object new sound.graph (ap (λ (h : Held). h.1) same) (ap (λ (h : Held). h.2) same))
-                (each_with (IsFresh own.mapping store.tables) own.graph object new sound.fresh (λ less. if_fresh own.mapping store.tables is_read o (sound.fresh (place_of object) less)))
-                (each_with IsMarkedRight own.graph object new sound.marked (λ less. if_marked is_read o (sound.marked (place_of object) less))) sound.legal sound.scopes;
-            tidy = record {
-              own = put_orderly object new own (λ less. if_orderly own.mapping is_read o (it.written (place_of object) less).unmarked (orderly.objects (place_of object) less)) (if_named is_read o) orderly;
-              ascending = hale.healthy.tidy.ascending;
-            };
+      hale = record {
+        healthy = record {
+          sound =
+              changed_sound own store graph it.opened (length-set own.graph.objects (place_of object) new) refl
+              (graph_put own.graph object new sound.graph (ap (λ (h : Held). h.1) same) (ap (λ (h : Held). h.2) same))
+              (each_with (IsFresh own.mapping store.tables) own.graph object new sound.fresh (λ less. if_fresh own.mapping store.tables is_read o (sound.fresh (place_of object) less)))
+              (each_with IsMarkedRight own.graph object new sound.marked (λ less. if_marked is_read o (sound.marked (place_of object) less))) sound.legal sound.scopes;
+          tidy = record {
+            own = put_orderly object new own (λ less. if_keyed own.mapping is_read o (orderly.objects (place_of object) less)) (if_named is_read o) orderly;
+            ascending = hale.healthy.tidy.ascending;
           };
-          keyed = object_keyed object new own class (λ less. if_fits own.mapping own.graph.roots is_read o (its_fit object own hale.keyed less)) hale.keyed;
-          handled = subst (λ (s : List Scope). length own.drawn.handles ≡ depth_in own.failed s - 1) (sym scopes) hale.handled;
         };
-        opened = subst (λ (s : List Scope). has_scope s ≡ true) (sym scopes) it.within.opened;
-        awake = it.within.awake;
-        goes = goes_more it.within.goes (goes_on (with_one own object new class));
+        keyed = object_keyed object new own class (λ less. if_fits own.mapping own.graph.roots is_read o (its_fit object own hale.keyed less)) hale.keyed;
+        handled = subst (λ (s : List Scope). length own.drawn.handles ≡ depth_in own.failed s - 1) (sym scopes) hale.handled;
       };
-      written = each_with IsSettled own.graph object new it.written (λ less. if_settled is_read o (it.written (place_of object) less));
+      opened = subst (λ (s : List Scope). has_scope s ≡ true) (sym scopes) it.opened;
+      awake = it.awake;
+      goes = goes_more it.goes (goes_on (with_one own object new class));
     }
+
+-- a whole session in its transaction of which nothing is to be written, that has gone on from a first one
+pub record IsWrittenWithin (first : SessionState) (w : World) : Type 0 where
+  pub within : IsWithin first w
+  pub written : IsWritten w
+
+one_written : (first : SessionState) (store : Store) (object : ObjId) (own : SessionState) → IsWrittenWithin first (record { own = own; store = store }) → IsWrittenWithin first (record { own = with_expired object own; store = store })
+one_written first store object own it =
+    let o : Object = object_at own.graph object in
+    let is_read : Bool = is_persistent o.state in
+    record { within = one_within first store object own it.within; written = each_with IsSettled own.graph object (expired_if is_read o) it.written (λ less. if_settled is_read o (it.written (place_of object) less)) }
 
 -- ---- rows of an object
 
@@ -142,7 +145,7 @@ each_expired : (P : SessionState → Type 0) → ((object : ObjId) (own : Sessio
 each_expired P step [] own is = is
 each_expired P step (object ∷ objects) own is = each_expired P step objects (with_expired object own) (step object own is)
 
-closure_expired : (P : SessionState → Type 0) → ((object : ObjId) (own : SessionState) → P own → P (with_expired object own)) → (object : ObjId) (own : SessionState) → P own → P (session_expired object own)
+pub closure_expired : (P : SessionState → Type 0) → ((object : ObjId) (own : SessionState) → P own → P (with_expired object own)) → (object : ObjId) (own : SessionState) → P own → P (session_expired object own)
 unfolding session_expired
 closure_expired P step object own is = each_expired P step (closure_of RefreshExpire own.mapping own.graph object) own is
 
@@ -156,4 +159,4 @@ pub expired_still : (first : SessionState) (object : ObjId) (rows : List (List V
     → IsToFill first object rows (record { own = session_expired other own; store = store })
 expired_still first object rows store other own is =
     closure_expired (λ (now : SessionState). IsToFill first object rows (record { own = now; store = store }))
-    (λ one now it. record { written = one_within first store one now it.written; fills = one_fills object one rows store.tables now it.fills }) other own is
+    (λ one now it. record { written = one_written first store one now it.written; fills = one_fills object one rows store.tables now it.fills }) other own is

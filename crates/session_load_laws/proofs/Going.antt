@@ -14,14 +14,16 @@ use Rattle.session_calls.specs.Parts.{World, fault_if}
 use Rattle.session_calls.specs.Steps.{enter}
 use Rattle.session_calls.proofs.Joining.{goes_itself}
 use Rattle.session_links.specs.Steps.{change_inside, change_link}
-use Rattle.session_acts.specs.Steps.{flush_whole}
+use Rattle.session_acts.specs.Flush.{flush}
 use Rattle.session_laws.specs.LinkCalls.{IsLinkCall}
 use Rattle.session_laws.specs.Whole.{IsHale}
 use Rattle.session_laws.specs.Loads.{IsLoad, IsRereadOf, loading_of}
+use Rattle.session_laws.specs.Preparing.{PreparationsLeaveReread}
 use Rattle.session_laws.proofs.Loads.Objects.{loaded_anew}
 use Rattle.session_laws.proofs.Health.Acts.{FlushLeavesSound, FlushWritesAll, IsLed}
 use Rattle.session_laws.proofs.Whole.Inside.{IsWithin, change_within, enter_within, flush_within, goes_within, load_within}
 use Rattle.session_laws.proofs.Whole.Programs as keyed
+use Rattle.session_laws.proofs.Whole.Reads.{reads_in}
 use Rattle.session_laws.proofs.Whole.Since.{IsKeyedSince, since_steps}
 use Rattle.session_load_laws.specs.Loads.{LoadsLeaveLoaded, MayLoad, loaded_by}
 
@@ -43,8 +45,9 @@ led_going first run led since = record { here = record { hale = led.here; goes =
 pub enter_going : (w : World) → IsHale w → IsLed (IsGoing w.own) (IsWithin w.own) (enter w)
 enter_going w hale = led_going w.own (enter w) (enter_within w hale) ((keyed.enters (IsKeyedSince w.own) (since_steps w.own)).kept w (record { keyed = hale.keyed; same = goes_itself w.own }))
 
-pub flush_going : FlushLeavesSound → FlushWritesAll → (first : SessionState) (w : World) → IsWithin first w → IsLed (IsGoing first) (IsWithin first) (flush_whole w)
-flush_going keeps answers first w it = led_going first (flush_whole w) (flush_within keeps answers first w it) ((keyed.flushes_whole (IsKeyedSince first) (since_steps first)).kept w (since_of first w it))
+pub flush_going : PreparationsLeaveReread → FlushLeavesSound → FlushWritesAll → (first : SessionState) (w : World) → IsWithin first w → IsLed (IsGoing first) (IsWithin first) (flush w)
+flush_going reads keeps answers first w it =
+    led_going first (flush w) (flush_within reads keeps answers first w it) (keyed.flushes_in (IsKeyedSince first) (since_steps first) w (reads_in reads w it.hale) (since_of first w it))
 
 pub load_going : {A : Type 0} (m : Beside Loading → Run (Beside Loading) A) (first : SessionState) (w : World) → IsWithin first w → IsLoad m w → IsLed (IsGoing first) (IsWithin first) (on_load m w)
 load_going m first w it load = led_going first (on_load m w) (load_within m first w it load) (keyed.loads (IsKeyedSince first) (since_steps first) m w load.loads.fit load.loads.grows (since_of first w it))

@@ -39,7 +39,7 @@ use Rattle.session_laws.proofs.Loads.Laws.{loaded_hale}
 use Rattle.session_laws.proofs.Loads.Objects.{loaded_anew}
 use Rattle.session_laws.proofs.OwnRows.Standing.{hierarchies}
 use Rattle.session_load_laws.specs.Loads.{LoadsKeepSessionsWhole, LoadsLeaveLoaded, MayLoad, loaded_by, taken_in}
-use Rattle.session_load_laws.proofs.Bridge.{loaded_bridge}
+use Rattle.session_laws.proofs.Bridge.{loaded_bridge}
 
 module _ (selects : SelectsAnswerTableRows) (owns : OwnSelectsAnswerTableRows) (mains : MainSelectsAnswerTableRows) (world : World) (hale : IsHale world) where
   abbrev mapped : Mapped

@@ -1,7 +1,6 @@
-pub mod Bridge
 pub mod Laws
 pub mod Going
 pub mod Expiring
+pub mod Expiry
 pub mod Anew
 pub mod Readings
-pub mod Preparing

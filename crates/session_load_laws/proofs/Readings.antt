@@ -44,17 +44,20 @@ use Rattle.session_links.specs.declared.reading.Related.{Related}
 use Rattle.session_links.specs.Reading.{AreToldMade, is_many, none_related}
 use Rattle.session_links.specs.Steps.{change_inside}
 use Rattle.session_links.proofs.ReadLemmas.{end_told, members_told}
-use Rattle.session_acts.specs.Steps.{flush_now, flush_whole}
+use Rattle.session_acts.specs.Flush.{flush}
+use Rattle.session_acts.specs.Steps.{flush_now}
 use Rattle.session_loads.specs.Asking.{asked_fault, cell_fault, detached_if, is_expired_in, is_key_expired_in, is_persistent_in, is_unloaded_in, link_fault}
 use Rattle.session_loads.specs.Queries.{load_query, select_objects}
 use Rattle.session_loads.specs.Reads.{change_collection, change_loaded, fetch_link, fetch_members, fill_attached, fill_cell, fill_key, fill_link, find_by_key, found_for, found_under, get, if_asked, load_key, load_link, read_attached, read_cell, read_lacking, read_members, read_related, refresh_cells, related_as, related_in, tell_cell, tell_related, value_in, write_and_fill}
 use Rattle.session_laws.specs.LinkCalls.{IsLinkCall}
 use Rattle.session_laws.specs.Loads.{loading_of}
+use Rattle.session_laws.specs.Preparing.{PreparationsLeaveReread}
 use Rattle.session_laws.specs.Whole.{IsHale}
 use Rattle.session_laws.proofs.Health.Acts.{FlushLeavesSound, FlushWritesAll, IsLed, led_checked, led_then}
 use Rattle.session_laws.proofs.Whole.Inside.{IsWithin}
 use Rattle.session_calls.proofs.Joining.{goes_itself}
 use Rattle.session_load_laws.proofs.Laws.{key_told, leaves_law, query_told}
+use Rattle.session_load_laws.proofs.Expiry.{expire_hale}
 use Rattle.session_load_laws.proofs.Going.{IsGoing, change_going, enter_going, flush_going, going_of, loaded_going, passed}
 use Rattle.session_load_laws.proofs.Anew.{refresh_hale}
 use Rattle.session_load_laws.specs.Loads.{LoadsLeaveLoaded, MayLoad, loaded_by}
@@ -110,7 +113,7 @@ unfolding give
 asked_led true m first w it later = later refl
 asked_led false m first w it later = record { here = (going_of it); told = λ u is. it }
 
-module _ (loads : LoadsLeaveLoaded) (keeps : FlushLeavesSound) (answers : FlushWritesAll) (first : SessionState) where
+module _ (loads : LoadsLeaveLoaded) (reads : PreparationsLeaveReread) (keeps : FlushLeavesSound) (answers : FlushWritesAll) (first : SessionState) where
   -- in the transaction
   abbrev Within : World → Type 0
   Within = IsWithin first
@@ -175,7 +178,7 @@ module _ (loads : LoadsLeaveLoaded) (keeps : FlushLeavesSound) (answers : FlushW
     unfolding fetch_link by_own
     fetch_led w it =
         asked_led (is_unloaded_in object place w.own) (write_and_fill object place) first w it
-        (λ asked. led_then Going Within Within flush_whole (λ u. fill_attached object place) w (flush_going keeps answers first w it) (λ u again. attached_led (flush_whole w).after again))
+        (λ asked. led_then Going Within Within flush (λ u. fill_attached object place) w (flush_going reads keeps answers first w it) (λ u again. attached_led (flush w).after again))
 
     pub related_led : (w : World) → Within w → IsLed Going Within (tell_related object place w)
     unfolding tell_related
@@ -201,10 +204,10 @@ module _ (loads : LoadsLeaveLoaded) (keeps : FlushLeavesSound) (answers : FlushW
     members_led w it =
         asked_led (is_unloaded_in owner place w.own) (read_members owner place call) first w it
         (λ asked.
-        led_then Going (Passes (asked_fault owner place call)) Within (checked (asked_fault owner place call)) (λ u. flush_whole >>= λ u. read_attached owner place call) w (passes_led (asked_fault owner place call) w it)
+        led_then Going (Passes (asked_fault owner place call)) Within (checked (asked_fault owner place call)) (λ u. flush >>= λ u. read_attached owner place call) w (passes_led (asked_fault owner place call) w it)
         (λ u passes.
         let v : World = (checked (asked_fault owner place call) w).after in
-        led_then Going Within Within flush_whole (λ u. read_attached owner place call) v (flush_going keeps answers first v passes.within) (λ u again. read_attached_led (flush_whole v).after again)))
+        led_then Going Within Within flush (λ u. read_attached owner place call) v (flush_going reads keeps answers first v passes.within) (λ u again. read_attached_led (flush v).after again)))
 
     pub changed_hale : (w : World) → Within w → Going (change_loaded owner place call w).after
     unfolding change_loaded
@@ -236,9 +239,9 @@ module _ (loads : LoadsLeaveLoaded) (keeps : FlushLeavesSound) (answers : FlushW
     lacking_led : (w : World) → Within w → Going (read_lacking class key w).after
     unfolding by_own
     lacking_led w it =
-        (led_then Going Within Going flush_whole (λ u. load_key class key) w (flush_going keeps answers first w it)
+        (led_then Going Within Going flush (λ u. load_key class key) w (flush_going reads keeps answers first w it)
         (λ u again.
-        let v : World = (flush_whole w).after in
+        let v : World = (flush w).after in
         let led = load_led (Load.Key class key) (load_targets.load_key v.own.mapping class key) v refl (subst (λ (mapped : Mapped). IsClass mapped class) (sym again.goes.mapping) declared) again in
         record { here = led.here; told = λ a is. led.here })).here
 
@@ -252,65 +255,66 @@ module _ (loads : LoadsLeaveLoaded) (keeps : FlushLeavesSound) (answers : FlushW
 
 -- ---- the calls
 
-module _ (loads : LoadsLeaveLoaded) (keeps : FlushLeavesSound) (answers : FlushWritesAll) where
+module _ (loads : LoadsLeaveLoaded) (reads : PreparationsLeaveReread) (keeps : FlushLeavesSound) (answers : FlushWritesAll) where
   read_hale : (object : ObjId) (attr : AttrNo) (w : World) → IsObject w.own.graph object → IsHale w → IsGoing w.own (read_cell object attr w).after
   unfolding read_cell
   read_hale object attr w made hale =
-      (led_then (IsGoing w.own) (IsWithin w.own) (IsWithin w.own) enter (λ u. tell_cell object attr) w (enter_going w hale) (λ u it. cell_led loads keeps answers w.own object attr made (enter w).after it)).here
+      (led_then (IsGoing w.own) (IsWithin w.own) (IsWithin w.own) enter (λ u. tell_cell object attr) w (enter_going w hale) (λ u it. cell_led loads reads keeps answers w.own object attr made (enter w).after it)).here
 
   related_hale : (object : ObjId) (place : RelNo) (w : World) → IsPlace object place w.own → IsHale w → IsGoing w.own (read_related object place w).after
   unfolding read_related
   related_hale object place w at hale =
-      (led_then (IsGoing w.own) (IsWithin w.own) (IsWithin w.own) enter (λ u. tell_related object place) w (enter_going w hale) (λ u it. related_led loads keeps answers w.own object place at (enter w).after it)).here
+      (led_then (IsGoing w.own) (IsWithin w.own) (IsWithin w.own) enter (λ u. tell_related object place) w (enter_going w hale) (λ u it. related_led loads reads keeps answers w.own object place at (enter w).after it)).here
 
   change_hale : (owner : ObjId) (place : RelNo) (call : LinkCall) (w : World) → IsLinkCall w.own.mapping w.own.graph owner place call → IsHale w → IsGoing w.own (change_collection owner place call w).after
   unfolding change_collection
   change_hale owner place call w on hale =
       (led_then (IsGoing w.own) (IsWithin w.own) (IsGoing w.own) enter (λ u. change_loaded owner place call) w (enter_going w hale)
-      (λ u it. let done = changed_hale loads keeps answers w.own owner place call on (enter w).after it in record { here = done; told = λ a is. done })).here
+      (λ u it. let done = changed_hale loads reads keeps answers w.own owner place call on (enter w).after it in record { here = done; told = λ a is. done })).here
 
   get_hale : (class : ClassId) (key : List Value) (w : World) → IsClass w.own.mapping class → IsHale w → IsGoing w.own (get class key w).after
   unfolding get
   get_hale class key w declared hale =
       (led_then (IsGoing w.own) (IsWithin w.own) (IsGoing w.own) enter (λ u. find_by_key class key) w (enter_going w hale)
-      (λ u it. let done = found_hale loads keeps answers w.own class key declared (enter w).after it in record { here = done; told = λ a is. done })).here
+      (λ u it. let done = found_hale loads reads keeps answers w.own class key declared (enter w).after it in record { here = done; told = λ a is. done })).here
 
   abbrev IsSelected : Mapped → ObjectQuery → Type 0
   IsSelected mapped query = ReadsJoined mapped query × AllByRecursion (IsOption mapped query.class) query.joined × AllByRecursion (IsOption mapped query.class) query.selectin
 
   queried : (query : ObjectQuery) (first : SessionState) (v : World) → IsSelected v.own.mapping query → IsWithin first v → IsGoing first (load_query query v).after
   unfolding by_own load_queries.load_query
-  queried query first v may it = (load_led loads keeps answers first (Load.Query query) (load_queries.load_query v.own.mapping query) v refl may it).here
+  queried query first v may it = (load_led loads reads keeps answers first (Load.Query query) (load_queries.load_query v.own.mapping query) v refl may it).here
 
   query_hale : (query : ObjectQuery) (w : World) → MayRead (Reading.Objects query) w → IsHale w → IsGoing w.own (select_objects query w).after
   unfolding select_objects flush_now
   query_hale query w may hale =
       let first : SessionState = w.own in
-      let written : IsLed (IsGoing first) (IsWithin first) ((enter >>= λ u. flush_whole) w) =
-      led_then (IsGoing first) (IsWithin first) (IsWithin first) enter (λ u. flush_whole) w (enter_going w hale) (λ u it. flush_going keeps answers first (enter w).after it) in
-      (led_then (IsGoing first) (IsWithin first) (IsGoing first) (enter >>= λ u. flush_whole) (λ u. load_query query) w written
+      let written : IsLed (IsGoing first) (IsWithin first) ((enter >>= λ u. flush) w) =
+      led_then (IsGoing first) (IsWithin first) (IsWithin first) enter (λ u. flush) w (enter_going w hale) (λ u it. flush_going reads keeps answers first (enter w).after it) in
+      (led_then (IsGoing first) (IsWithin first) (IsGoing first) (enter >>= λ u. flush) (λ u. load_query query) w written
       (λ u it.
-      let v : World = ((enter >>= λ u. flush_whole) w).after in
+      let v : World = ((enter >>= λ u. flush) w).after in
       let done = queried query first v (subst (λ (mapped : Mapped). IsSelected mapped query) (sym it.goes.mapping) may) it in
       record { here = done; told = λ a is. done })).here
 
-module _ (selects : SelectsAnswerTableRows) (owns : OwnSelectsAnswerTableRows) (mains : MainSelectsAnswerTableRows) (keeps : FlushLeavesSound) (answers : FlushWritesAll) where
+module _ (selects : SelectsAnswerTableRows) (owns : OwnSelectsAnswerTableRows) (mains : MainSelectsAnswerTableRows) (reads : PreparationsLeaveReread) (keeps : FlushLeavesSound) (answers : FlushWritesAll) where
   law : LoadsLeaveLoaded
   law = leaves_law selects owns mains
 
   going : (reading : Reading) (w : World) → MayRead reading w → IsHale w → IsGoing w.own (after_reading reading w)
-  going (Reading.Cell object attr) w may hale = read_hale law keeps answers object attr w may hale
-  going (Reading.Link object place) w may hale = related_hale law keeps answers object place w may hale
-  going (Reading.Change owner place call) w may hale = change_hale law keeps answers owner place call w may hale
-  going (Reading.Key class key) w may hale = get_hale law keeps answers class key w may hale
-  going (Reading.Objects query) w may hale = query_hale law keeps answers query w may hale
-  going (Reading.Anew object) w may hale = refresh_hale selects owns mains keeps answers object w may hale
+  going (Reading.Cell object attr) w may hale = read_hale law reads keeps answers object attr w may hale
+  going (Reading.Link object place) w may hale = related_hale law reads keeps answers object place w may hale
+  going (Reading.Change owner place call) w may hale = change_hale law reads keeps answers owner place call w may hale
+  going (Reading.Key class key) w may hale = get_hale law reads keeps answers class key w may hale
+  going (Reading.Objects query) w may hale = query_hale law reads keeps answers query w may hale
+  going (Reading.Anew object) w may hale = refresh_hale selects owns mains reads keeps answers object w may hale
+  going (Reading.Expiry object) w may hale = expire_hale object w hale
 
-pub readings_law : SelectsAnswerTableRows → OwnSelectsAnswerTableRows → MainSelectsAnswerTableRows → FlushLeavesSound → FlushWritesAll → ReadingsKeepWhole
-readings_law selects owns mains keeps answers reading w may hale = (going selects owns mains keeps answers reading w may hale).hale
+pub readings_law : SelectsAnswerTableRows → OwnSelectsAnswerTableRows → MainSelectsAnswerTableRows → PreparationsLeaveReread → FlushLeavesSound → FlushWritesAll → ReadingsKeepWhole
+readings_law selects owns mains reads keeps answers reading w may hale = (going selects owns mains reads keeps answers reading w may hale).hale
 
-pub goes_law : SelectsAnswerTableRows → OwnSelectsAnswerTableRows → MainSelectsAnswerTableRows → FlushLeavesSound → FlushWritesAll → ReadingsGoOn
-goes_law selects owns mains keeps answers reading w may hale = (going selects owns mains keeps answers reading w may hale).goes
+pub goes_law : SelectsAnswerTableRows → OwnSelectsAnswerTableRows → MainSelectsAnswerTableRows → PreparationsLeaveReread → FlushLeavesSound → FlushWritesAll → ReadingsGoOn
+goes_law selects owns mains reads keeps answers reading w may hale = (going selects owns mains reads keeps answers reading w may hale).goes
 
 -- ---- what is told
 
@@ -358,7 +362,7 @@ related_made object place session fit made = by (link_at session.graph object pl
 from_itself : (first : SessionState) (w : World) → IsWithin first w → IsWithin w.own w
 from_itself first w it = record { hale = it.hale; opened = it.opened; awake = it.awake; goes = goes_itself w.own }
 
-module _ (selects : SelectsAnswerTableRows) (owns : OwnSelectsAnswerTableRows) (mains : MainSelectsAnswerTableRows) (keeps : FlushLeavesSound) (answers : FlushWritesAll) where
+module _ (selects : SelectsAnswerTableRows) (owns : OwnSelectsAnswerTableRows) (mains : MainSelectsAnswerTableRows) (reads : PreparationsLeaveReread) (keeps : FlushLeavesSound) (answers : FlushWritesAll) where
   loads : LoadsLeaveLoaded
   loads = leaves_law selects owns mains
 
@@ -382,7 +386,7 @@ module _ (selects : SelectsAnswerTableRows) (owns : OwnSelectsAnswerTableRows) (
     where
       by : (is : Bool) → Tells MadeEnd ((if is then (fill_key object >>= λ u. give (Some object)) else give None) w)
       by true =
-          tells_then (IsGoing w.own) (IsWithin w.own) MadeEnd (fill_key object) (λ u. give (Some object)) w (key_led loads keeps answers w.own class key declared object w found it)
+          tells_then (IsGoing w.own) (IsWithin w.own) MadeEnd (fill_key object) (λ u. give (Some object)) w (key_led loads reads keeps answers w.own class key declared object w found it)
           (λ u again end is.
           let v : World = (fill_key object w).after in
           let stands = found_stands w.own.graph (root_of w.own.mapping class) key object it.hale.healthy.sound.graph.rooted found in
@@ -392,9 +396,9 @@ module _ (selects : SelectsAnswerTableRows) (owns : OwnSelectsAnswerTableRows) (
   lacking_tells : (class : ClassId) (key : List Value) (w : World) → IsClass w.own.mapping class → IsWithin w.own w → Tells MadeEnd (read_lacking class key w)
   unfolding by_own on_load
   lacking_tells class key w declared it =
-      tells_then (IsGoing w.own) (IsWithin w.own) MadeEnd flush_whole (λ u. load_key class key) w (flush_going keeps answers w.own w it)
+      tells_then (IsGoing w.own) (IsWithin w.own) MadeEnd flush (λ u. load_key class key) w (flush_going reads keeps answers w.own w it)
       (λ u again end is.
-      let v : World = (flush_whole w).after in
+      let v : World = (flush w).after in
       let run = load_targets.load_key v.own.mapping class key (loading_of v) in
       let root : ClassId = root_of v.own.mapping class in
       end_made run.after.own.graph root end
@@ -420,11 +424,11 @@ module _ (selects : SelectsAnswerTableRows) (owns : OwnSelectsAnswerTableRows) (
   unfolding select_objects flush_now by_own on_load
   query_tells query w may hale =
       let first : SessionState = w.own in
-      let written : IsLed (IsGoing first) (IsWithin first) ((enter >>= λ u. flush_whole) w) =
-      led_then (IsGoing first) (IsWithin first) (IsWithin first) enter (λ u. flush_whole) w (enter_going w hale) (λ u it. flush_going keeps answers first (enter w).after it) in
-      tells_then (IsGoing first) (IsWithin first) MadeAll (enter >>= λ u. flush_whole) (λ u. load_query query) w written
+      let written : IsLed (IsGoing first) (IsWithin first) ((enter >>= λ u. flush) w) =
+      led_then (IsGoing first) (IsWithin first) (IsWithin first) enter (λ u. flush) w (enter_going w hale) (λ u it. flush_going reads keeps answers first (enter w).after it) in
+      tells_then (IsGoing first) (IsWithin first) MadeAll (enter >>= λ u. flush) (λ u. load_query query) w written
       (λ u it objects is.
-      let v : World = ((enter >>= λ u. flush_whole) w).after in
+      let v : World = ((enter >>= λ u. flush) w).after in
       let run = load_queries.load_query v.own.mapping query (loading_of v) in
       let root : ClassId = root_of v.own.mapping query.class in
       let given : MayRead (Reading.Objects query) v = subst (λ (mapped : Mapped). IsSelectedBy mapped query) (sym it.goes.mapping) may in
@@ -444,16 +448,16 @@ module _ (selects : SelectsAnswerTableRows) (owns : OwnSelectsAnswerTableRows) (
       (led_checked (IsGoing first) (IsWithin first) (link_fault object place) v (going_of it) (λ none. it))
       (λ u again.
       let x : World = (checked (link_fault object place) v).after in
-      tells_then (IsGoing first) (IsWithin first) MadeTold (fetch_link object place) (λ u. by_own (λ session. give (related_in object place session))) x (fetch_led loads keeps answers first object place at x again)
+      tells_then (IsGoing first) (IsWithin first) MadeTold (fetch_link object place) (λ u. by_own (λ session. give (related_in object place session))) x (fetch_led loads reads keeps answers first object place at x again)
       (λ u then_it related is.
       let y : World = (fetch_link object place x).after in
       subst (AreToldMade y.own.graph) (let same : related_in object place y.own ≡ related = cc in same) (related_made object place y.own then_it.hale.keyed.fit (object_on object first y.own then_it.goes at.made)))))
 
-pub gets_law : SelectsAnswerTableRows → OwnSelectsAnswerTableRows → MainSelectsAnswerTableRows → FlushLeavesSound → FlushWritesAll → GetsTellMade
-gets_law selects owns mains keeps answers class key end w declared hale is = get_tells selects owns mains keeps answers class key w declared hale end is
+pub gets_law : SelectsAnswerTableRows → OwnSelectsAnswerTableRows → MainSelectsAnswerTableRows → PreparationsLeaveReread → FlushLeavesSound → FlushWritesAll → GetsTellMade
+gets_law selects owns mains reads keeps answers class key end w declared hale is = get_tells selects owns mains reads keeps answers class key w declared hale end is
 
-pub queries_law : SelectsAnswerTableRows → OwnSelectsAnswerTableRows → MainSelectsAnswerTableRows → FlushLeavesSound → FlushWritesAll → QueriesTellMade
-queries_law selects owns mains keeps answers query objects w may hale is = query_tells selects owns mains keeps answers query w may hale objects is
+pub queries_law : SelectsAnswerTableRows → OwnSelectsAnswerTableRows → MainSelectsAnswerTableRows → PreparationsLeaveReread → FlushLeavesSound → FlushWritesAll → QueriesTellMade
+queries_law selects owns mains reads keeps answers query objects w may hale is = query_tells selects owns mains reads keeps answers query w may hale objects is
 
-pub links_law : SelectsAnswerTableRows → OwnSelectsAnswerTableRows → MainSelectsAnswerTableRows → FlushLeavesSound → FlushWritesAll → LinksTellMade
-links_law selects owns mains keeps answers object place related w at hale is = link_tells selects owns mains keeps answers object place w at hale related is
+pub links_law : SelectsAnswerTableRows → OwnSelectsAnswerTableRows → MainSelectsAnswerTableRows → PreparationsLeaveReread → FlushLeavesSound → FlushWritesAll → LinksTellMade
+links_law selects owns mains reads keeps answers object place related w at hale is = link_tells selects owns mains reads keeps answers object place w at hale related is

@@ -1,4 +1,4 @@
--- The calls of a session that read rows into its objects.
+-- The calls of a session that read rows into its objects, or expire them.
 use Rattle.std.specs.Prelude.{◌≡◌, ◌<◌, List, length, Option, Ok}
 use Rattle.std.specs.List.{All, AllByRecursion}
 use Rattle.base_core.specs.declared.ids.AttrNo.{AttrNo}
@@ -18,12 +18,12 @@ use Rattle.session_calls.specs.Parts.{World}
 use Rattle.session_links.specs.declared.reading.Related.{Related}
 use Rattle.session_links.specs.Reading.{AreToldMade}
 use Rattle.session_loads.specs.Queries.{select_objects}
-use Rattle.session_loads.specs.Reads.{change_collection, get, read_cell, read_related, refresh}
+use Rattle.session_loads.specs.Reads.{change_collection, expire, get, read_cell, read_related, refresh}
 use Rattle.session_laws.specs.LinkCalls.{IsLinkCall}
 use Rattle.session_laws.specs.Whole.{IsHale}
 
 -- what is asked: the value of a cell, what a link leads to, the change of a collection, the object of a class under a key, the objects
--- of a query, and an object that is to be read anew
+-- of a query, an object that is to be read anew, and one that is to be expired
 pub data Reading : Type 0 where
   Cell : ObjId → AttrNo → Reading
   Link : ObjId → RelNo → Reading
@@ -31,6 +31,7 @@ pub data Reading : Type 0 where
   Key : ClassId → List Value → Reading
   Objects : ObjectQuery → Reading
   Anew : ObjId → Reading
+  Expiry : ObjId → Reading
 
 -- the session and the store after it, whatever it answers
 abbrev pub after_reading : Reading → World → World
@@ -40,6 +41,7 @@ after_reading (Change owner place call) world = (change_collection owner place c
 after_reading (Key class key) world = (get class key world).after
 after_reading (Objects query) world = (select_objects query world).after
 after_reading (Anew object) world = (refresh object world).after
+after_reading (Expiry object) world = (expire object world).after
 
 -- the relationship at a place of an object that has been made
 pub record IsPlace (object : ObjId) (place : RelNo) (session : SessionState) : Type 0 where
@@ -55,6 +57,7 @@ MayRead (Key class key) world = IsClass world.own.mapping class
 MayRead (Objects query) world =
     ReadsJoined world.own.mapping query × AllByRecursion (IsOption world.own.mapping query.class) query.joined × AllByRecursion (IsOption world.own.mapping query.class) query.selectin
 MayRead (Anew object) world = IsObject world.own.graph object
+MayRead (Expiry object) world = IsObject world.own.graph object
 
 -- whatever it answers, a whole session stays whole
 abbrev pub ReadingsKeepWhole : Type 0

@@ -3,7 +3,6 @@
 #![tactic(auto)]
 
 ghost use Rattle.session_load_laws.specs.Loads.{LoadsKeepSessionsWhole, LoadsLeaveLoaded};
-ghost use Rattle.session_load_laws.specs.Preparing.{PreparationsKeepWhole, PreparationsLeaveReread};
 ghost use Rattle.session_load_laws.specs.Readings.{
   GetsTellMade,
   LinksTellMade,
@@ -12,12 +11,12 @@ ghost use Rattle.session_load_laws.specs.Readings.{
   ReadingsKeepWhole,
 };
 
-use preparing_laws::readings_only_reread;
 use ranked_rows::{
     main_selects_answer_table_rows, own_selects_answer_table_rows, selects_answer_table_rows,
 };
 use session_laws::{
     a_flush_keeps_a_told_session_sound, an_answered_flush_of_a_told_session_leaves_sound,
+    preparations_keep_sessions_whole,
 };
 
 /// Whatever a load answers, it leaves the store as it was, and of a whole session's objects what a session may take in: they fit, one
@@ -39,17 +38,6 @@ pub fn loads_keep_sessions_whole()
     loads_leave_loaded();
 }
 
-/// What is to be known before objects are deleted is read so that a whole session may take it in, whatever is answered: the store is as
-/// it was; of the objects at most cells and links were read, and what was put into a cell of which the row's value was not known is lost.
-/// In a transaction the session that takes that in stays whole.
-pub fn preparations_keep_sessions_whole()
-    ensures reread { PreparationsLeaveReread }
-    ensures whole { PreparationsKeepWhole }
-{
-    selects_answer_table_rows();
-    readings_only_reread();
-}
-
 /// Whatever a call answers that reads rows into objects, a whole session stays whole: the value of a cell, what a link leads to, the
 /// change of a collection that is to be loaded, the object of a class under a key, the objects of a query, and an object that is read
 /// anew, with those expired that hang on it. Each object that there was is there still, of its class.
@@ -60,6 +48,7 @@ pub fn readings_keep_sessions_whole()
     selects_answer_table_rows();
     own_selects_answer_table_rows();
     main_selects_answer_table_rows();
+    preparations_keep_sessions_whole();
     a_flush_keeps_a_told_session_sound();
     an_answered_flush_of_a_told_session_leaves_sound();
 }
@@ -74,6 +63,7 @@ pub fn readings_tell_made_objects()
     selects_answer_table_rows();
     own_selects_answer_table_rows();
     main_selects_answer_table_rows();
+    preparations_keep_sessions_whole();
     a_flush_keeps_a_told_session_sound();
     an_answered_flush_of_a_told_session_leaves_sound();
 }

@@ -1,12 +1,7 @@
 -- Objects that are expired, one after another.
 use Rattle.std.proofs.Common.{◌≡◌, ℕ, ◌+◌, ◌<◌, ◌≤◌, List, length, drop, get_or, sym, ap, ◌∙◌}
-use Rattle.std.specs.List.{All}
 use Rattle.std.proofs.lemmas.List.{drop_all, drop_more}
-use Rattle.std.proofs.lemmas.List.Elements.{All-weaker}
 use Rattle.base_core.specs.declared.ids.ObjId.{ObjId}
-use Rattle.object_arena.specs.Every.{classes_of}
-use Rattle.object_arena.specs.Graph.{Graph, IsObject}
-use Rattle.session_parts.proofs.ObjectLemmas.{made_still}
 use Rattle.session_scopes.specs.SessionState.{SessionState}
 use Rattle.session_loads.specs.Expiring.{all_expired, with_expired}
 
@@ -18,7 +13,3 @@ expired_more objects place none own now end less is all =
 -- all are
 pub expired_last : (objects : List ObjId) (place : ℕ) (own end : SessionState) → length objects ≤ place → all_expired (drop place objects) own ≡ end → own ≡ end
 expired_last objects place own end over all = sym (ap (λ (os : List ObjId). all_expired os own) (drop_all place objects over)) ∙ all
-
--- objects that change, each in its class, are there still
-pub objects_still : (old new : Graph) (objects : List ObjId) → classes_of new ≡ classes_of old → All (IsObject old) objects → All (IsObject new) objects
-objects_still old new objects same all = All-weaker (IsObject old) (IsObject new) (λ object made. made_still old new object same made) objects all

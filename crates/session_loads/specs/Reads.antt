@@ -26,7 +26,7 @@ use Rattle.session_links.specs.declared.reading.Related.{Related}
 use Rattle.session_links.specs.declared.reading.Related.TheVariants.{One, Many}
 use Rattle.session_links.specs.Reading.{is_many, none_related}
 use Rattle.session_links.specs.Steps.{change_inside}
-use Rattle.session_acts.specs.Steps.{flush_whole}
+use Rattle.session_acts.specs.Flush.{flush}
 use Rattle.session_loads.specs.Asking.{asked_fault, cell_fault, is_expired_in, is_key_expired_in, is_unloaded_in, link_fault, persistence_fault}
 use Rattle.session_loads.specs.Expiring.{session_expired}
 use Rattle.session_loads.specs.Rows.{fill_row, read_row}
@@ -72,7 +72,7 @@ fill_attached object place = checked (link_fault object place) >>= λ u. fill_li
 
 -- all that is to be written is written, and then the link is loaded
 abbrev pub write_and_fill : ObjId → RelNo → World → Run World (Unit {0})
-write_and_fill object place = flush_whole >>= λ u. fill_attached object place
+write_and_fill object place = flush >>= λ u. fill_attached object place
 
 unfoldable pub fetch_link : ObjId → RelNo → World → Run World (Unit {0})
 fetch_link object place = by_own (λ session. if_asked (is_unloaded_in object place session) (write_and_fill object place))
@@ -104,7 +104,7 @@ read_attached owner place call = checked (asked_fault owner place call) >>= λ u
 
 -- the same once all is written; what is against the change is asked before that too
 abbrev pub read_members : ObjId → RelNo → LinkCall → World → Run World (Unit {0})
-read_members owner place call = checked (asked_fault owner place call) >>= λ u. (flush_whole >>= λ u. read_attached owner place call)
+read_members owner place call = checked (asked_fault owner place call) >>= λ u. (flush >>= λ u. read_attached owner place call)
 
 unfoldable pub fetch_members : ObjId → RelNo → LinkCall → World → Run World (Unit {0})
 fetch_members owner place call = by_own (λ session. if_asked (is_unloaded_in owner place session) (read_members owner place call))
@@ -132,7 +132,7 @@ load_key class key = by_own (λ session. on_load (load_targets.load_key session.
 
 -- a key that the map lacks is asked for once all is written
 abbrev pub read_lacking : ClassId → List Value → World → Run World (Option ObjId)
-read_lacking class key = flush_whole >>= λ u. load_key class key
+read_lacking class key = flush >>= λ u. load_key class key
 
 abbrev pub found_for : ClassId → List Value → Option ObjId → World → Run World (Option ObjId)
 found_for class key (Some object) = found_under class object
@@ -145,6 +145,16 @@ find_by_key class key = by_own (λ session. found_for class key (find_identity s
 -- the object of a class under a key, if there is one
 unfoldable pub get : ClassId → List Value → World → Run World (Option ObjId)
 get class key = enter >>= λ u. find_by_key class key
+
+-- ---- an object that is expired
+
+-- in the transaction
+abbrev pub expire_inside : ObjId → World → Run World (Unit {0})
+expire_inside object = checked (persistence_fault object) >>= λ u. changes (session_expired object)
+
+-- a persistent object is to be read again, with all to which refresh-expire goes on from it; delete marks stay
+unfoldable pub expire : ObjId → World → Run World (Unit {0})
+expire object = enter >>= λ u. expire_inside object
 
 -- ---- an object that is read anew
 
@@ -160,7 +170,7 @@ refresh_written object = checked (persistence_fault object) >>= λ u. read_anew 
 
 -- in the transaction
 unfoldable pub refresh_inside : ObjId → World → Run World (Unit {0})
-refresh_inside object = checked (persistence_fault object) >>= λ u. (flush_whole >>= λ u. refresh_written object)
+refresh_inside object = checked (persistence_fault object) >>= λ u. (flush >>= λ u. refresh_written object)
 
 -- all is written, and then a persistent object is read anew, and those that hang on it are expired
 unfoldable pub refresh : ObjId → World → Run World (Unit {0})

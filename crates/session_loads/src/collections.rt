@@ -17,7 +17,7 @@ use crate::links::fill_attached;
 use base_core::{ObjId, Refusal, RelNo};
 use keeper_core::Keeper;
 use relations::LinkCall;
-use session_acts::flush_whole;
+use session_acts::flush;
 use session_calls::enter;
 use session_links::change_inside;
 use session_scopes::Session;
@@ -135,7 +135,7 @@ fn read_members<K: Keeper>(
         session.old (K.moment keeper.old) e session.new (K.moment keeper.new)) }
 {
     ask_change(session, owner, place, call)?;
-    flush_whole(session, keeper)?;
+    flush(session, keeper)?;
     read_attached(session, keeper, owner, place, call)
 }
 

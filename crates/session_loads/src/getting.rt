@@ -17,7 +17,7 @@ use crate::loads::{LoadKey, RefreshCells, load};
 use base_core::{ClassId, Key, ObjId, Refusal};
 use class_layouts::has_class;
 use keeper_core::Keeper;
-use session_acts::flush_whole;
+use session_acts::flush;
 use session_calls::enter;
 use session_scopes::Session;
 
@@ -145,6 +145,6 @@ fn read_lacking<K: Keeper>(
     ensures refused { IfErr result (λ e. IsRefusedWriting no_fault IsRefusedRows
         session.old (K.moment keeper.old) e session.new (K.moment keeper.new)) }
 {
-    flush_whole(session, keeper)?;
+    flush(session, keeper)?;
     load(session, keeper, LoadKey { class, key })
 }

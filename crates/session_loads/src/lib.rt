@@ -1,6 +1,6 @@
 //! The calls of a session that read rows into its objects, over any keeper: what is asked, the flush, and the load, which the session
 //! makes by its door for loads. An expired cell is read, a link that is not loaded, an object by its key, the objects of a query, and
-//! an object anew; a collection that is not loaded is read before it changes.
+//! an object anew; a collection that is not loaded is read before it changes. And an object is expired, to be read again.
 #![tactic(auto)]
 
 mod asking;
@@ -16,6 +16,7 @@ mod rows;
 
 pub use cells::read_cell;
 pub use collections::change_collection;
+pub use expiring::expire;
 pub use getting::get;
 pub use links::read_related;
 pub use queries::select_objects;

@@ -18,7 +18,7 @@ use base_core::{Copied, ListOf, ObjId, Refusal, RelNo};
 use keeper_core::Keeper;
 use load_rows::relation_at;
 use object_arena::Link;
-use session_acts::flush_whole;
+use session_acts::flush;
 use session_calls::enter;
 use session_links::Related;
 use session_scopes::Session;
@@ -128,7 +128,7 @@ fn write_and_fill<K: Keeper>(
         (IsRefusedLink object)
         session.old (K.moment keeper.old) e session.new (K.moment keeper.new)) }
 {
-    flush_whole(session, keeper)?;
+    flush(session, keeper)?;
     fill_attached(session, keeper, object, place)
 }
 

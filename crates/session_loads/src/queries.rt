@@ -66,8 +66,8 @@ impl<'a> ObjectLoad for LoadQuery<'a> {
 ///
 /// # Errors
 /// `PendingRollbackError` while a failed flush waits for its rollback; then, in the transaction, what a flush is refused for; then what
-/// the keeper refuses of a select, `DataError` only where that calculates, `InvalidRequestError(NoSuchIdentity)` for a row that names no class, and `LimitReached(Objects)`.
-/// What was loaded by then stays.
+/// the keeper refuses of a select, `DataError` only where that calculates, `InvalidRequestError(NoSuchIdentity)` for a row that names
+/// no class, and `LimitReached(Objects)`. What was loaded by then stays.
 pub fn select_objects<K: Keeper>(
     session: &mut Session,
     keeper: &mut K,

@@ -11,12 +11,12 @@ ghost use Rattle.session_loads.specs.Reads as steps;
 ghost use Rattle.session_loads.specs.Refusals.{IsRefusedHere, IsRefusedLoading, IsRefusedWhole, IsRefusedWriting};
 
 use crate::asking::persistence_fault;
-use crate::expiring::expire;
+use crate::expiring::expire_along;
 use crate::loads::load;
 use crate::rows::{FillRow, ReadRow};
 use base_core::{ObjId, Refusal};
 use keeper_core::Keeper;
-use session_acts::flush_whole;
+use session_acts::flush;
 use session_calls::enter;
 use session_scopes::Session;
 
@@ -64,7 +64,7 @@ fn refresh_inside<K: Keeper>(
     if let Some(fault) = persistence_fault(session, object) {
         return Err(fault);
     }
-    flush_whole(session, keeper)?;
+    flush(session, keeper)?;
     refresh_written(session, keeper, object)
 }
 
@@ -101,7 +101,7 @@ fn read_anew<K: Keeper>(session: &mut Session, keeper: &mut K, object: ObjId) ->
         session.old (K.moment keeper.old) e session.new (K.moment keeper.new)) }
 {
     let rows = load(session, keeper, ReadRow { object })?;
-    expire(session, object)?;
+    expire_along(session, object)?;
     load(
         session,
         keeper,

@@ -42,7 +42,7 @@ identity_left o (one ∷ others) = identity_left (cell_put o one.0 (unwritten_ce
 
 -- ---- whether the object comes to differ
 
-twice_not : (b : Bool) → b ≡ not (not b)
+pub twice_not : (b : Bool) → b ≡ not (not b)
 twice_not true = refl
 twice_not false = refl
 

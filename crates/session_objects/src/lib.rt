@@ -1,5 +1,5 @@
-//! The calls that make objects, set their values and bring them into a session, over any keeper. Values are judged by the validators of
-//! their classes; discriminators no line sets.
+//! The calls that make objects, set their values, and bring them into a session or take them out of it, over any keeper. Values are
+//! judged by the validators of their classes; discriminators no line sets.
 #![tactic(auto)]
 
 mod adding;
@@ -7,6 +7,7 @@ mod coming;
 mod conflicts;
 mod joining;
 mod judging;
+mod leaving;
 mod setting;
 mod taking;
 
@@ -14,4 +15,5 @@ pub use adding::add;
 pub use coming::{coming_objects, is_inside};
 pub use conflicts::conflict_fault;
 pub use joining::take_all;
+pub use leaving::expunge;
 pub use setting::{make_valid, set_valid};

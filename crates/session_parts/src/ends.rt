@@ -60,7 +60,7 @@ pub fn let_go_all(arena: &mut Arena)
 }
 
 /// A pending object is transient, a persistent or deleted one detached, and no delete mark stays.
-fn let_go(arena: &mut Arena, object: ObjId)
+pub fn let_go(arena: &mut Arena, object: ObjId)
     requires { IsObject arena.old object }
     ensures left { arena.new
         ≡ with_object arena.old object (spec.object_left (object_at arena.old object)) }

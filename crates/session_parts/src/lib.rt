@@ -4,4 +4,4 @@
 
 mod ends;
 
-pub use ends::{commit_all, let_go_all, unmark};
+pub use ends::{commit_all, let_go, let_go_all, unmark};

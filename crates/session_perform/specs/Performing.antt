@@ -18,7 +18,7 @@ use Rattle.session_calls.specs.Parts.{World}
 use Rattle.session_calls.specs.Steps as calls
 use Rattle.session_tables.specs.Steps.{change_all}
 use Rattle.session_tables.specs.declared.tables.TableChange.TheVariants.{Create, Drop}
-use Rattle.session_objects.specs.Steps.{add}
+use Rattle.session_objects.specs.Steps.{add, expunge}
 use Rattle.session_objects.specs.ValueSteps as values
 use Rattle.session_links.specs.Steps as links
 use Rattle.session_links.specs.declared.reading.Related.{Related}
@@ -127,6 +127,8 @@ program_of_resolved rules (resolved.SetCell object attr value) = quietly (values
 program_of_resolved rules (resolved.ChangeLink owner relation call) = quietly (change_link owner relation call)
 program_of_resolved rules (resolved.Add object) = quietly (add object)
 program_of_resolved rules (resolved.Delete object) = quietly (calls.delete object)
+program_of_resolved rules (resolved.Expunge object) = quietly (expunge object)
+program_of_resolved rules (resolved.Expire object) = quietly (reads.expire object)
 program_of_resolved rules (resolved.Refresh object) = quietly (reads.refresh object)
 program_of_resolved rules (resolved.Show thing) = give (answer.Thing thing)
 program_of_resolved rules (resolved.ShowCell object attr) = telling answer.Value (reads.read_cell object attr)

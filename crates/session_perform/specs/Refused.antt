@@ -15,6 +15,7 @@ use Rattle.session_tables.specs.Steps.{transaction_fault}
 use Rattle.session_acts.specs.Savepoints.{handle_fault, limit_fault}
 use Rattle.session_statements.specs.Steps.{update_fault}
 use Rattle.session_objects.specs.Conflicts.{add_fault}
+use Rattle.session_objects.specs.Leaving.{expunge_fault}
 use Rattle.session_objects.specs.ValueSteps.{judged_fault, valid_made, value_invalid}
 use Rattle.session_links.specs.Linking.{change_fault}
 use Rattle.session_loads.specs.Asking.{cell_fault, link_fault, persistence_fault}
@@ -47,6 +48,8 @@ IsRefusedLine rules (resolved.ChangeLink owner relation (Set end)) old was e new
 IsRefusedLine rules (resolved.ChangeLink owner relation call) old was e new now = IsRefusedChanging owner relation call old was e new now
 IsRefusedLine rules (resolved.Add object) old was e new now = IsRefused (pending_fault old) (add_fault object old) old e new
 IsRefusedLine rules (resolved.Delete object) old was e new now = IsRefused (pending_fault old) (mark_fault object old) old e new
+IsRefusedLine rules (resolved.Expunge object) old was e new now = IsRefused (pending_fault old) (expunge_fault object old) old e new
+IsRefusedLine rules (resolved.Expire object) old was e new now = IsRefused (pending_fault old) (persistence_fault object old) old e new
 IsRefusedLine rules (resolved.Refresh object) old was e new now =
     IsRefusedLoading (pending_fault old) (persistence_fault object old) (persistence_fault object) (IsRefusedWhole object) old was e new now
 IsRefusedLine rules (resolved.Show thing) old was e new now = ⊥

@@ -17,8 +17,8 @@ use command_resolve::{Answer, Resolved};
 use keeper_core::Keeper;
 use session_acts::flush_now;
 use session_calls::{close, delete};
-use session_loads::refresh;
-use session_objects::{add, set_valid};
+use session_loads::{expire, refresh};
+use session_objects::{add, expunge, set_valid};
 use session_scopes::Session;
 use session_tables::{create_all, drop_all};
 
@@ -65,6 +65,8 @@ pub fn perform<K: Keeper>(
         }
         Resolved::Add(object) => nothing_told(add(session, keeper, object)),
         Resolved::Delete(object) => nothing_told(delete(session, keeper, object)),
+        Resolved::Expunge(object) => nothing_told(expunge(session, keeper, object)),
+        Resolved::Expire(object) => nothing_told(expire(session, keeper, object)),
         Resolved::Refresh(object) => nothing_told(refresh(session, keeper, object)),
         Resolved::Show(thing) => Ok(Answer::Thing(thing)),
         Resolved::ShowCell(object, attr) => read_cell(session, keeper, object, attr),

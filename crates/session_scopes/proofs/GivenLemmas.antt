@@ -1,32 +1,29 @@
 -- Cells and links that are given back to objects that have their classes still.
-use Rattle.std.proofs.Common.{◌≡◌, ℕ, ◌+◌, ◌-◌, ◌<◌, ◌≤◌, true, List, [], ◌∷◌, ◌++◌, length, map, get_or, Option, None, Some, Result, Ok, Err, IfOk, refl, sym, ap, ◌∙◌, subst, append_assoc, ⊎_elim, arith}
+use Rattle.std.proofs.Common.{◌≡◌, ℕ, ◌+◌, ◌-◌, ◌<◌, ◌≤◌, true, zero, suc, List, [], ◌∷◌, ◌++◌, length, map, drop, take, get_or, Option, None, Some, Result, Ok, Err, IfOk, refl, sym, ap, ◌∙◌, subst, append_assoc, ⊎_elim, arith}
 use Rattle.std.specs.Prelude.{slice_get}
 use Rattle.std.specs.List.{All}
 use Rattle.std.specs.Cmp.Lexicographic.{pointwise}
 use Rattle.std.proofs.lemmas.Bool.{cases_lt}
-use Rattle.std.proofs.lemmas.List.{append-nil, get_or-map, length-map, same_lists}
+use Rattle.std.proofs.lemmas.List.{append-nil, get_or-map, get_or-take, length-map, length-take, same_lists, take-append-drop}
 use Rattle.std.proofs.lemmas.Option.{slice_get-get_or, slice_get_past}
 use Rattle.base_core.specs.declared.ids.ClassId.{ClassId}
 use Rattle.class_mapping.specs.Mapped.{Mapped, attributes_of, relations_of, root_of}
 use Rattle.object_arena.specs.declared.object.Object.{Object}
-use Rattle.object_arena.specs.Every.{classes_of}
 use Rattle.object_arena.specs.Fit.{IsFit, ObjectFits, cell_fits, links_fit}
-use Rattle.object_arena.specs.Graph.{Graph, no_object}
+use Rattle.object_arena.specs.Graph.{Graph, no_object, object_at}
 use Rattle.object_arena.specs.Identity.{id_of_place}
 use Rattle.object_arena.proofs.FitLemmas.{fit_cells}
 use Rattle.object_arena.proofs.LinkLemmas.{links_grown}
 use Rattle.savepoints.proofs.BackLemmas.{each_at, each_long}
 use Rattle.object_records.specs.declared.kept.Held.{Held}
 use Rattle.object_records.specs.Kept.{CanHold, CanHoldAll, IsNarrow, given_back, held_by, held_in, holding, nothing_held}
-use Rattle.load_filling.specs.Growing.{Grows}
-use Rattle.load_filling.proofs.LoadedLemmas.{grows_same}
 use Rattle.session_scopes.specs.Keeping.{IsKeptOf}
-use Rattle.session_scopes.proofs.GrownLemmas.{grown_class, grown_long}
+use Rattle.session_scopes.specs.SessionState.{IsMadeOf}
 
 -- ---- what is kept
 
 pub kept_of : {E : Type 0} (mapped : Mapped) (graph : Graph) (r : Result (List Held) E) → IsFit mapped graph → IfOk r (λ kept. kept ≡ held_in graph) → IfOk r (All IsNarrow) → IfOk r (λ kept. IsKeptOf mapped kept graph)
-kept_of mapped graph (Ok kept) fit held narrow = record { before = graph; held = held; fit = fit; grows = grows_same graph graph refl; narrow = narrow }
+kept_of mapped graph (Ok kept) fit held narrow = record { before = graph; held = held; fit = fit; there = λ object made. (made, refl); narrow = narrow }
 kept_of mapped graph (Err e) fit held narrow = tt
 
 -- ---- roots
@@ -44,13 +41,21 @@ module _ (mapped : Mapped) (kept : List Held) (graph : Graph) (is : IsKeptOf map
   kept_long = ap (λ (ks : List Held). length ks) is.held ∙ length-map is.before.objects held_by
 
   longer : length is.before.objects ≤ length graph.objects
-  longer = grown_long is.before graph is.grows
+  longer = by (length is.before.objects) refl
+    where
+      -- the last object is there still
+      by : (n : ℕ) → length is.before.objects ≡ n → length is.before.objects ≤ length graph.objects
+      by zero none = omega (arith, none)
+      by (suc n) last = let there : IsMadeOf graph (id_of_place n) (object_at is.before (id_of_place n)).class = is.there (id_of_place n) (omega arith, omega (arith, last)) in omega (arith, last, there.0.1)
 
   kept_at : (k : ℕ) → k < length kept → get_or kept k nothing_held ≡ held_by (get_or is.before.objects k no_object)
   kept_at k less = ap (λ (ks : List Held). get_or ks k nothing_held) is.held ∙ get_or-map held_by is.before.objects k no_object nothing_held (omega (arith, less, kept_long))
 
   same_class : (k : ℕ) → k < length kept → (get_or graph.objects k no_object).class ≡ (get_or is.before.objects k no_object).class
-  same_class k less = grown_class is.before graph k is.grows (omega (arith, less, kept_long))
+  same_class k less =
+      let place : k + 1 - 1 ≡ k = omega arith in
+      let there : IsMadeOf graph (id_of_place k) (object_at is.before (id_of_place k)).class = is.there (id_of_place k) (omega arith, omega (arith, less, kept_long)) in
+      subst (λ (p : ℕ). (get_or graph.objects p no_object).class ≡ (get_or is.before.objects p no_object).class) place there.1
 
   -- as many cells and links
   pub can_hold : IsFit mapped graph → CanHoldAll kept graph
@@ -105,9 +110,32 @@ module _ (mapped : Mapped) (kept : List Held) (graph : Graph) (is : IsKeptOf map
       own : ObjectFits mapped (get_or graph.objects k no_object)
       own = fit.objects k no_object inside
 
-  rooted : graph.roots ≡ is.before.roots ++ is.grows.roots
-  unfolding classes_of
-  rooted = is.grows.rooted
+  -- the roots that there were come first
+  rooted : IsFit mapped graph → graph.roots ≡ is.before.roots ++ drop (length is.before.roots) graph.roots
+  rooted fit = sym (take-append-drop n graph.roots) ∙ ap (λ (rs : List ClassId). rs ++ drop n graph.roots) (same_lists (take n graph.roots) is.before.roots (length-take n graph.roots ∙ omega (arith, rooted_long, before_long, longer)) each)
+    where
+      n : ℕ
+      n = length is.before.roots
+
+      root : Object → ClassId
+      root o = root_of mapped o.class
+
+      before_long : length is.before.roots ≡ length is.before.objects
+      before_long = ap (λ (rs : List ClassId). length rs) is.fit.roots ∙ length-map is.before.objects root
+
+      rooted_long : length graph.roots ≡ length graph.objects
+      rooted_long = ap (λ (rs : List ClassId). length rs) fit.roots ∙ length-map graph.objects root
+
+      each : (k : ℕ) (d : ClassId) → k < length (take n graph.roots) → get_or (take n graph.roots) k d ≡ get_or is.before.roots k d
+      each k d within =
+          let less : k < n = omega (arith, within, length-take n graph.roots) in
+          let held : k < length kept = omega (arith, less, before_long, kept_long) in
+          get_or-take n graph.roots k d less
+          ∙ ap (λ (rs : List ClassId). get_or rs k d) fit.roots
+          ∙ get_or-map root graph.objects k no_object d (omega (arith, less, before_long, longer))
+          ∙ ap (root_of mapped) (same_class k held)
+          ∙ sym (get_or-map root is.before.objects k no_object d (omega (arith, less, before_long)))
+          ∙ ap (λ (rs : List ClassId). get_or rs k d) (sym is.fit.roots)
 
   links_still : IsFit mapped graph → (k : ℕ) → k < length graph.objects → links_fit mapped graph.roots (holding (slice_get kept k) (get_or graph.objects k no_object)) ≡ true
   links_still fit k inside =
@@ -118,8 +146,8 @@ module _ (mapped : Mapped) (kept : List Held) (graph : Graph) (is : IsKeptOf map
       let class : ClassId → Object = λ c. record it { class = c; cells = was.cells; links = was.links } in
       ap (links_fit mapped graph.roots) (given_there k less)
       ∙ ap (λ (c : ClassId). links_fit mapped graph.roots (class c)) (same_class k less)
-      ∙ ap (λ (rs : List ClassId). links_fit mapped rs (class was.class)) rooted
-      ∙ links_longer mapped is.before.roots is.grows.roots (class was.class) (is.fit.links k no_object (omega (arith, less, kept_long))))
+      ∙ ap (λ (rs : List ClassId). links_fit mapped rs (class was.class)) (rooted fit)
+      ∙ links_longer mapped is.before.roots (drop (length is.before.roots) graph.roots) (class was.class) (is.fit.links k no_object (omega (arith, less, kept_long))))
       (λ (past : length kept ≤ k). ap (links_fit mapped graph.roots) (given_since k past) ∙ fit.links k no_object inside)
       (cases_lt k (length kept))
 

@@ -1,13 +1,11 @@
 -- What a session does to one object in the transaction, or why it does not.
-use Rattle.std.specs.Prelude.{Bool, true, not, ◌&&◌, ◌||◌, length, nat_lt, Option, None, Some, is_some, Ok, Err, if◌then◌else◌}
-use Rattle.std.specs.List.{list_all}
+use Rattle.std.specs.Prelude.{true, not, Option, None, Some, Ok, Err, if◌then◌else◌}
 use Rattle.base_core.specs.declared.ids.AttrNo.{AttrNo}
 use Rattle.base_core.specs.declared.ids.ObjId.{ObjId}
 use Rattle.base_core.specs.declared.refusal.Refusal.{Refusal}
-use Rattle.base_core.specs.declared.refusal.Refusal.TheVariants.{InvalidRequestError, NotBuilt}
+use Rattle.base_core.specs.declared.refusal.Refusal.TheVariants.{InvalidRequestError}
 use Rattle.base_core.specs.declared.refusal.RequestKind.TheVariants.{NotPersistent}
 use Rattle.base_core.specs.declared.value.Value.{Value}
-use Rattle.object_arena.specs.declared.object.Cell.{Cell}
 use Rattle.object_arena.specs.declared.object.Object.{Object}
 use Rattle.object_arena.specs.Graph.{Graph, is_persistent, key_fault, object_at, with_object, with_value}
 pub use Rattle.object_parts.specs.Cells.{is_kept_cell}
@@ -23,20 +21,9 @@ changed_unless None graph session = quiet (Ok tt) (with_graph graph session)
 unfoldable pub value_put : ObjId → AttrNo → Value → SessionState → Run SessionState (Unit {0})
 value_put object attr value session = changed_unless (key_fault session.mapping (object_at session.graph object) attr) (with_value session.graph object attr value) session
 
--- what the cell holds and what its row holds are known
-abbrev pub is_known : Cell → Bool
-is_known cell = is_some cell.value && is_some cell.base
-
-abbrev pub has_links : Object → Bool
-has_links object = nat_lt 0 (length object.links)
-
--- Of an object to be deleted each cell must be known, and it must have no links: cells that are not known are to be read first, and
--- of links it is to be decided what goes with the object, which is not built.
+-- only a persistent object is deleted
 abbrev pub delete_fault : Object → Option Refusal
-delete_fault object =
-    if not (is_persistent object.state) then Some (InvalidRequestError NotPersistent)
-    else if not (list_all is_known object.cells) || has_links object then Some NotBuilt
-    else None
+delete_fault object = if not (is_persistent object.state) then Some (InvalidRequestError NotPersistent) else None
 
 -- the next flush deletes a persistent object
 unfoldable pub deletion_marked : ObjId → SessionState → Run SessionState (Unit {0})

@@ -6,8 +6,7 @@ use Rattle.object_arena.specs.Fit.{IsFit}
 use Rattle.object_arena.specs.Graph.{Graph}
 use Rattle.object_records.specs.declared.kept.Held.{Held}
 use Rattle.object_records.specs.Kept.{IsNarrow, given_back, held_in}
-use Rattle.load_filling.specs.Growing.{Grows}
-use Rattle.session_scopes.specs.SessionState.{SessionState}
+use Rattle.session_scopes.specs.SessionState.{AreThereStill, SessionState}
 
 -- These are the cells and links of objects that fitted the mapping; each of them is there still, of its class, and others may stand
 -- behind them.
@@ -15,7 +14,7 @@ pub record IsKeptOf (mapped : Mapped) (kept : List Held) (graph : Graph) : Type 
   pub before : Graph
   pub held : kept ≡ held_in before
   pub fit : IsFit mapped before
-  pub grows : Grows before graph
+  pub there : AreThereStill before graph
   pub narrow : All IsNarrow kept
 
 -- the objects have the cells and links that were kept; those that were made since, and the scopes, stay as they are

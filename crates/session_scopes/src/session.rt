@@ -9,7 +9,7 @@ ghost use Rattle.keeper_core.specs.declared.notes.Note.TheVariants as note;
 ghost use Rattle.class_mapping.specs.Mapped.{IsAttribute, IsClass, attributes_of};
 ghost use Rattle.object_arena.specs.Fit.{IsFit};
 ghost use Rattle.object_arena.specs.Graph.{IsCell, IsObject, is_persistent, object_at, value_fault};
-ghost use Rattle.std.specs.List.{All, list_all};
+ghost use Rattle.std.specs.List.{All};
 ghost use Rattle.keeper_core.specs.Alone.{IsQuiet};
 ghost use Rattle.load_rows.specs.Loading.{loading};
 ghost use Rattle.object_records.specs.Kept.{held_in};
@@ -28,7 +28,7 @@ use crate::{Handles, ObjectLoad, ObjectStep};
 use base_core::{AttrNo, ClassId, ObjId, Refusal, RequestKind, Value, Warning};
 use class_mapping::Mapping;
 use keeper_core::{Keeper, Note, Notes, Sent, calls};
-use object_arena::{Arena, Cell, Object, State};
+use object_arena::{Arena, Object, State};
 use object_parts::is_of_kept_key;
 use object_records::{KeptObjects, give_back, kept_objects, touch_for_mark, touch_for_value};
 use savepoints::Frames;
@@ -497,12 +497,10 @@ impl Session {
         is_of_kept_key(&self.mapping, self.object(object), attr)
     }
 
-    /// The next flush deletes a persistent object each of whose cells is known and that has no links. It is touched in the
-    /// innermost scope where its record comes to differ.
+    /// The next flush deletes a persistent object. It is touched in the innermost scope where its record comes to differ.
     ///
     /// # Errors
-    /// `InvalidRequestError(NotPersistent)`, and `NotBuilt` where a cell is expired or its row's value is not known, or where its
-    /// class has relationships. They change nothing. `Memory`, after which the object may have been touched.
+    /// `InvalidRequestError(NotPersistent)`, which changes nothing. `Memory`, after which the object may have been touched.
     #[tactic(auto, unfolding(crate::specs::Changes::deletion_marked))]
     pub fn mark_deletion(&mut self, object: ObjId) -> Result<(), Refusal>
         requires object { IsObject self.old.graph object }
@@ -532,31 +530,10 @@ fn note_warnings(notes: &mut Notes, warnings: &[Warning]) -> Result<(), AllocErr
     Ok(())
 }
 
-/// Whether what a cell holds and what its row holds are known.
-fn is_known(cell: &Cell) -> bool
-    ensures { result ≡ changes.is_known cell.now }
-{
-    cell.value.is_some() && cell.base.is_some()
-}
-
-/// Whether all of these cells are known.
-fn are_known(cells: &[Cell]) -> bool
-    ensures { result ≡ list_all changes.is_known cells.now }
-{
-    cells.iter().all(is_known)
-}
-
 fn is_persistent(state: State) -> bool
     ensures { result ≡ is_persistent state }
 {
     matches!(state, State::Persistent)
-}
-
-/// Whether an object's class has relationships.
-fn has_links(object: &Object) -> bool
-    ensures { result ≡ changes.has_links object.now }
-{
-    0 < object.links.len()
 }
 
 /// Why an object is not deleted.
@@ -565,9 +542,6 @@ fn delete_fault(object: &Object) -> Option<Refusal>
 {
     if !is_persistent(object.state) {
         return Some(Refusal::InvalidRequestError(RequestKind::NotPersistent));
-    }
-    if !are_known(object.cells.as_slice()) || has_links(object) {
-        return Some(Refusal::NotBuilt);
     }
     None
 }

@@ -1,6 +1,6 @@
 -- A flush where nothing is left to flush leaves the objects and the tables as they are.
 use Rattle.std.proofs.Common.{◌≡◌, ℕ, zero, suc, ◌+◌, ◌<◌, ◌≤◌, Bool, true, false, ◌&&◌, List, [], ◌∷◌, get_or, length, map, Option, None, Some, Ok, Err, if◌then◌else◌, refl, sym, ap, subst, ◌∙◌, ⊎_elim, arith}
-use Rattle.std.specs.List.{AllByRecursion, enumerate_from, position, range_with_len, zip}
+use Rattle.std.specs.List.{AllByRecursion, enumerate_from, position, zip}
 use Rattle.std.specs.Prelude.{slice_get}
 use Rattle.std.specs.Option.{option_map}
 use Rattle.std.proofs.lemmas.Bool.{and_parts, cases_lt}
@@ -24,7 +24,7 @@ use Rattle.object_arena.specs.declared.object.Object.{Object}
 use Rattle.object_arena.specs.declared.object.State.{State}
 use Rattle.object_arena.specs.declared.object.State.TheVariants.{Transient, Pending, Persistent, Deleted, Detached}
 use Rattle.object_arena.specs.Fit.{key_fits}
-use Rattle.object_arena.specs.Graph.{Graph, is_among, is_pending, is_persistent, no_class_id, no_object, object_at, place_of, root_at}
+use Rattle.object_arena.specs.Graph.{Graph, is_pending, is_persistent, no_class_id, no_object, object_at, place_of, root_at}
 use Rattle.object_arena.specs.Identity.{has_key, id_of_place, is_other}
 use Rattle.object_rows.specs.declared.prepared.Prepared.{Prepared}
 use Rattle.object_rows.specs.Cells.{first_cell, is_by, linked_cell, or_first, put_cell, relation_cell}
@@ -32,15 +32,26 @@ use Rattle.object_rows.specs.Seen.{changed_end, is_new, link_of, object_ids}
 use Rattle.flush_plan.specs.Flushing.{Flushed, send_all}
 use Rattle.flush_plan.specs.Planning.{plan}
 use Rattle.row_project.specs.Changes.{project}
-use Rattle.graph_flushed.specs.Flushed.{Written, deleted_object, graph_written, held_or, kept_cell, kept_link, object_flushed, object_in, staying_cell, staying_object, state_under, state_unless, value_come, value_put, written_with}
+use Rattle.graph_flushed.specs.Flushed.{Written, graph_written, held_or, kept_cell, kept_link, graph_flushed, object_flushed, object_in, staying_cell, state_under, state_unless, value_come, value_put, written_with}
 use Rattle.graph_flushed.specs.Keys.{is_given, key_if_fit, key_if_new, new_holder, new_key, new_keys}
-use Rattle.session_acts.specs.Flush.{flush, is_to_delete, prepared_of}
+use Rattle.keeper_core.specs.Beside.{Beside, by_own}
+use Rattle.keeper_core.specs.Programs.{Run}
+use Rattle.load_rows.specs.Loading.{Loading}
+use Rattle.prepared_objects.specs.Known.{next_unread}
+use Rattle.prepared_objects.specs.Leaving.{going, prepared_of, starts_deletes}
+use Rattle.session_scopes.specs.Loads.{on_load}
+use Rattle.session_calls.specs.Parts.{World}
+use Rattle.session_acts.specs.Flush.{flush, prepare}
 use Rattle.session_acts.specs.Outcome.{changes_of}
 use Rattle.loading_laws.proofs.Strategies.Goes.{same_answer}
 use Rattle.session_laws.specs.Flushed.{nothing_prepared}
-use Rattle.session_laws.proofs.Flushed.{no_statement, nothing_passes}
+use Rattle.session_laws.proofs.Flushed.{no_statement}
 use Rattle.session_laws.proofs.Flushes.Again.{here_at}
-use Rattle.session_laws.proofs.Flushes.Flushing.{flush_sent}
+use Rattle.session_laws.specs.Flushes.{prepared_world}
+use Rattle.session_laws.specs.Loads.{loading_of}
+use Rattle.session_laws.proofs.Flushes.Flushing.{IsFlushSent, flush_sent}
+use Rattle.session_laws.proofs.Flushes.Reached.{none_going, none_prepared, none_unread}
+use Rattle.session_laws.proofs.Flushes.Reading.{none_read, prepare_mapping, prepare_store}
 use Rattle.session_strategies.specs.Strategies.{FlushesOfNothingStay}
 use Rattle.session_strategies.specs.Unwritten.{IsAsFlushed, NothingIsLeft}
 use Rattle.session_strategies.proofs.Kept.{IsKeptCell, IsKeptLink}
@@ -74,31 +85,10 @@ neither false = refl
 
 -- ---- the flush of such objects
 
-module _ (mapped : Mapped) (rows : RowChanges) (given : List (List Value)) (graph : Graph) (nothing : NothingIsLeft graph) where
-  abbrev prepared : Prepared
-  prepared = prepared_of graph
+module _ (mapped : Mapped) (graph : Graph) (nothing : NothingIsLeft graph) where
+  none_starts : (object : ObjId) → starts_deletes (object_at graph object) ≡ false
+  none_starts object = at_number (λ (it : Object). starts_deletes it ≡ false) graph object (λ place inside. (nothing place inside).stays) refl
 
-  abbrev done : Written
-  done = written_with mapped prepared rows given graph
-
-  -- nothing is to be deleted
-  unmarked : (b : Bool) (marked : Bool) → marked ≡ false → (b && marked) ≡ false
-  unmarked true marked is = is
-  unmarked false marked is = refl
-
-  not_to_delete : (object : ObjId) → is_to_delete graph object ≡ false
-  not_to_delete object = at_number (λ (it : Object). (is_persistent it.state && it.marked) ≡ false) graph object (λ place inside. unmarked (is_persistent (get_or graph.objects place no_object).state) _ (nothing place inside).settled.unmarked) refl
-
-  none_prepared : prepared ≡ nothing_prepared
-  unfolding object_ids
-  none_prepared =
-      ap (λ (objects : List ObjId). let p : Prepared = record { deleted = objects; transient = []; cleared = [] } in p)
-      (nothing_passes (is_to_delete graph) id_of_place (range_with_len 0 (length graph.objects)) (λ place. not_to_delete (id_of_place place)))
-
-  stays_in : (object : ObjId) → is_among prepared.deleted object ≡ false
-  stays_in object = ap (λ (p : Prepared). is_among p.deleted object) none_prepared
-
-  -- no object is new, and so none has a new key
   not_pending : (state : State) → (state ≡ Pending → ⊥) → is_pending state ≡ false
   not_pending Transient never = refl
   not_pending Pending never = absurd (never refl)
@@ -106,15 +96,30 @@ module _ (mapped : Mapped) (rows : RowChanges) (given : List (List Value)) (grap
   not_pending Deleted never = refl
   not_pending Detached never = refl
 
-  not_new : (object : ObjId) → is_new graph prepared object ≡ false
-  not_new object = ap (λ (b : Bool). b && true) (at_number (λ (it : Object). is_pending it.state ≡ false) graph object (λ place inside. not_pending _ (nothing place inside).settled.settled) refl)
+  none_pending : (object : ObjId) → is_pending (object_at graph object).state ≡ false
+  none_pending object = at_number (λ (it : Object). is_pending it.state ≡ false) graph object (λ place inside. not_pending _ (nothing place inside).settled.settled) refl
 
-  keys_none : (objects : List ObjId) (roots : List ClassId) (n : ℕ) → (get_or (zip (map (key_if_new mapped graph prepared rows given) objects) roots) n (None, no_class_id)).0 ≡ None
+  -- nothing is to be deleted
+  deletes_nothing : going mapped graph ≡ []
+  deletes_nothing = none_going mapped graph none_starts
+
+  prepares_nothing : prepared_of mapped graph ≡ nothing_prepared
+  prepares_nothing = none_prepared mapped graph deletes_nothing none_pending
+
+module _ (mapped : Mapped) (rows : RowChanges) (given : List (List Value)) (graph : Graph) (nothing : NothingIsLeft graph) where
+  abbrev done : Written
+  done = written_with mapped nothing_prepared rows given graph
+
+  -- no object is new, and so none has a new key
+  not_new : (object : ObjId) → is_new graph nothing_prepared object ≡ false
+  not_new object = ap (λ (b : Bool). b && true) (none_pending mapped graph nothing object)
+
+  keys_none : (objects : List ObjId) (roots : List ClassId) (n : ℕ) → (get_or (zip (map (key_if_new mapped graph nothing_prepared rows given) objects) roots) n (None, no_class_id)).0 ≡ None
   keys_none [] roots n = refl
   keys_none (object ∷ objects) [] n = refl
   keys_none (object ∷ objects) (root ∷ roots) zero = without_key (not_new object)
     where
-      without_key : is_new graph prepared object ≡ false → key_if_new mapped graph prepared rows given object ≡ None
+      without_key : is_new graph nothing_prepared object ≡ false → key_if_new mapped graph nothing_prepared rows given object ≡ None
       without_key none = ap (λ (b : Bool). if b then key_if_fit (key_fits mapped (object_at graph object).class (new_key mapped graph rows given object)) (new_key mapped graph rows given object) else None) none
   keys_none (object ∷ objects) (root ∷ roots) (suc n) = keys_none objects roots n
 
@@ -136,11 +141,11 @@ module _ (mapped : Mapped) (rows : RowChanges) (given : List (List Value)) (grap
   -- ---- an object
 
   module _ (object : ObjId) (it : Object) (here : object_at graph object ≡ it) (flushed : IsAsFlushed it) where
-    come_none : is_persistent it.state ≡ true → (table : TableId) (name : List ℕ) → linked_cell mapped graph prepared done.names object table name ≡ None
+    come_none : is_persistent it.state ≡ true → (table : TableId) (name : List ℕ) → linked_cell mapped graph nothing_prepared done.names object table name ≡ None
     come_none persistent table name =
-        first_none (relation_cell mapped graph prepared done.names object table name) (enumerate_from 0 (relations_of mapped (object_at graph object).class))
+        first_none (relation_cell mapped graph nothing_prepared done.names object table name) (enumerate_from 0 (relations_of mapped (object_at graph object).class))
         (λ placed.
-        ap (λ (put : Option (Option ObjId)). if is_by table placed.1 then put_cell mapped.schema graph prepared done.names name (slice_get (foreigns_in mapped.schema.tables table) placed.1.foreign.1) put else None)
+        ap (λ (put : Option (Option ObjId)). if is_by table placed.1 then put_cell mapped.schema graph nothing_prepared done.names name (slice_get (foreigns_in mapped.schema.tables table) placed.1.foreign.1) put else None)
         (ap (λ (o : Object). changed_end (link_of o (record { 0 = placed.0 }))) here ∙ kept_end it.links placed.0 (flushed.links persistent))
         ∙ neither (is_by table placed.1))
 
@@ -172,12 +177,11 @@ module _ (mapped : Mapped) (rows : RowChanges) (given : List (List Value)) (grap
     same_in Pending is = absurd (flushed.settled.settled is)
     same_in Persistent is =
         let persistent : is_persistent it.state ≡ true = ap is_persistent is in
-        ap (λ (b : Bool). if b then deleted_object done object it else staying_object done object it) (stays_in object)
-        ∙ (λ i. record it {
+        λ i. record it {
           state = (stands object it.identity ∙ sym is) i;
           cells = cells_same persistent 0 it.cells (flushed.cells persistent) i;
           links = (ap (map kept_link) (prepared_same 0 it.links) ∙ kept_same it.links (flushed.links persistent)) i;
-        })
+        }
     same_in Deleted is = λ i. record it { links = prepared_same 0 it.links i }
     same_in Detached is = λ i. record it { links = prepared_same 0 it.links i }
 
@@ -207,23 +211,33 @@ module _ (mapped : Mapped) (rows : RowChanges) (given : List (List Value)) (grap
     roots = graph.roots;
   }
 
-  pub none_planned : plan mapped.schema (project mapped graph prepared) ≡ Ok []
+  none_planned : plan mapped.schema (project mapped graph (prepared_of mapped graph)) ≡ Ok []
   none_planned =
-      ap (λ (p : Prepared). plan mapped.schema (project mapped graph p)) none_prepared
+      ap (λ (p : Prepared). plan mapped.schema (project mapped graph p)) (prepares_nothing mapped graph nothing)
       ∙ ap (λ (g : Graph). plan mapped.schema (project mapped g nothing_prepared)) (sym graph_same) ∙ no_statement done
 
 -- ---- the session
 
+-- where nothing is to be read before a flush, the objects are as they were
+unread_same : (w : World) → next_unread w.own.mapping w.own.graph ≡ None → (prepared_world w).own.graph ≡ w.own.graph
+unfolding prepare by_own on_load
+unread_same w none = ap (λ (run : Run (Beside Loading) (Unit {0})). run.after.own.graph) (none_read w.own.mapping (loading_of w) none)
+
 pub flush_same : FlushesOfNothingStay
 flush_same w nothing is =
-    let sent = flush_sent w is in
-    let none : sent.statements ≡ [] = same_answer sent.statements [] (sym sent.planned ∙ none_planned w.own.mapping (changes_of w.own) sent.given w.own.graph nothing) in
-    let sofar : ◌≡◌ {A = Flushed} (Ok (record { tables = w.store.tables; keys = [] })) (Ok (record { tables = (flush w).after.store.tables; keys = sent.keys })) =
-    subst (λ (statements : List Planned). send_all w.own.mapping.schema (changes_of w.own) (Ok (record { tables = w.store.tables; keys = [] })) statements ≡ Ok (record { tables = (flush w).after.store.tables; keys = sent.keys })) none sent.sent in
+    let mid : World = prepared_world w in
+    let same : mid.own.graph ≡ w.own.graph = unread_same w (none_unread w.own.mapping w.own.graph (deletes_nothing w.own.mapping w.own.graph nothing)) in
+    let there : NothingIsLeft mid.own.graph = subst NothingIsLeft (sym same) nothing in
+    let sent : IsFlushSent mid (flush w).after = (flush_sent w is).sent in
+    let none : sent.statements ≡ [] = same_answer sent.statements [] (sym sent.planned ∙ none_planned mid.own.mapping (changes_of mid.own) sent.given mid.own.graph there) in
+    let sofar : ◌≡◌ {A = Flushed} (Ok (record { tables = mid.store.tables; keys = [] })) (Ok (record { tables = (flush w).after.store.tables; keys = sent.keys })) =
+    subst (λ (statements : List Planned). send_all mid.own.mapping.schema (changes_of mid.own) (Ok (record { tables = mid.store.tables; keys = [] })) statements ≡ Ok (record { tables = (flush w).after.store.tables; keys = sent.keys })) none sent.sent in
+    let store : (flush w).after.store ≡ mid.store = λ i. record { tables = (sym (ap (λ (s : Flushed). tables_of s mid.store.tables) sofar)) i; scopes = sent.starts i } in
     record {
-      mapping = sent.mapping;
-      graph = sent.objects ∙ graph_same w.own.mapping (changes_of w.own) sent.given w.own.graph nothing;
-      store = λ i. record { tables = (sym (ap (λ (s : Flushed). tables_of s w.store.tables) sofar)) i; scopes = sent.starts i };
+      mapping = sent.mapping ∙ prepare_mapping w;
+      graph = sent.objects ∙ ap (λ (p : Prepared). graph_flushed mid.own.mapping p (changes_of mid.own) sent.given mid.own.graph) (prepares_nothing mid.own.mapping mid.own.graph there)
+          ∙ graph_same mid.own.mapping (changes_of mid.own) sent.given mid.own.graph there ∙ same;
+      store = store ∙ prepare_store w;
     }
   where
     tables_of : Flushed → Tables → Tables

@@ -34,6 +34,7 @@ use Rattle.session_calls.specs.Parts.{World}
 use Rattle.session_acts.specs.Steps.{flush_now}
 use Rattle.session_loads.specs.Queries.{load_query, select_objects}
 use Rattle.session_laws.specs.Loads.{loading_of}
+use Rattle.session_laws.specs.Preparing.{PreparationsLeaveReread}
 use Rattle.session_laws.specs.Whole.{IsHale}
 use Rattle.session_laws.proofs.Health.Acts.{FlushLeavesSound, FlushWritesAll}
 use Rattle.session_laws.proofs.OwnRows.Standing.{hierarchies}
@@ -109,9 +110,9 @@ fewer query place world may =
     } in
     (reads, may.1, (first_of (IsOption world.own.mapping query.class) query.selectin place may.2).0)
 
-pub asks_more : FlushLeavesSound → FlushWritesAll → QueriesTellMade → SelectinsAskInBatches
+pub asks_more : PreparationsLeaveReread → FlushLeavesSound → FlushWritesAll → QueriesTellMade → SelectinsAskInBatches
 unfolding select_objects load_queries.load_query load_options load_joined main_select by_own on_load give
-asks_more keeps answers told query place objects world after may hale g =
+asks_more reads keeps answers told query place objects world after may hale g =
     let mapped : Mapped = (written world).own.mapping in
     let class : ClassId = query.class in
     let start : loads.World = loading_of (written world) in
@@ -128,9 +129,9 @@ asks_more keeps answers told query place objects world after may hale g =
     record { answer = whole.answer; leaves = whole.leaves }) in
     let call : Goes (select_objects query) world two.value (taking last.between (written world)) = call_of query world two.value last.between by.flushed few in
     let here : taking last.between (written world) ≡ (select_objects query world).after = sym call.leaves in
-    let hale_written : IsHale (written world) = (written_led keeps answers world hale).here in
+    let hale_written : IsHale (written world) = (written_led reads keeps answers world hale).here in
     let within = (first_of (IsOption world.own.mapping class) query.selectin place may.2).1 in
-    let same : mapped ≡ world.own.mapping = ((written_led keeps answers world hale).told tt by.flushed).goes.mapping in
+    let same : mapped ≡ world.own.mapping = ((written_led reads keeps answers world hale).told tt by.flushed).goes.mapping in
     let made : All (IsObject last.between.own.graph) two.value =
     subst (λ (v : World). All (IsObject v.own.graph) two.value) call.leaves (told query two.value world (fewer query place world may) hale call.answer) in
     let owned = owners_are mapped class last.between.own.graph place two.value (hierarchies mapped hale_written.keyed.well).paired (subst (λ (m : Mapped). place.0 < length (relations_of m class)) (sym same) within) made in

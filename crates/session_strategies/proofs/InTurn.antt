@@ -39,6 +39,7 @@ use Rattle.session_calls.proofs.Joining.{goes_itself}
 use Rattle.session_links.specs.declared.reading.Related.{Related}
 use Rattle.session_loads.specs.Reads.{read_related, tell_related}
 use Rattle.session_laws.specs.Loads.{loading_of}
+use Rattle.session_laws.specs.Preparing.{PreparationsLeaveReread}
 use Rattle.session_laws.proofs.Health.Acts.{FlushLeavesSound, FlushWritesAll}
 use Rattle.session_laws.proofs.Whole.Inside.{IsWithin}
 use Rattle.session_load_laws.specs.Loads.{LoadsLeaveLoaded, MayLoad}
@@ -49,7 +50,7 @@ use Rattle.session_strategies.specs.Unwritten.{NothingIsLeft}
 use Rattle.session_strategies.proofs.Loaded.{load_left}
 use Rattle.session_strategies.proofs.Reading.{IsLazyLoad, inside_goes, loaded_stays, read_goes}
 
-module _ (selects : SelectsAnswerTableRows) (owns : OwnSelectsAnswerTableRows) (mains : MainSelectsAnswerTableRows) (leaves : LoadsLeaveLoaded) (keeps : FlushLeavesSound) (answers : FlushWritesAll) (start : World)
+module _ (selects : SelectsAnswerTableRows) (owns : OwnSelectsAnswerTableRows) (mains : MainSelectsAnswerTableRows) (leaves : LoadsLeaveLoaded) (reads : PreparationsLeaveReread) (keeps : FlushLeavesSound) (answers : FlushWritesAll) (start : World)
     (stage : IsStage start.own.mapping (loading_of start)) where
   abbrev mapped : Mapped
   mapped = start.own.mapping
@@ -115,7 +116,7 @@ module _ (selects : SelectsAnswerTableRows) (owns : OwnSelectsAnswerTableRows) (
         inside = inside_goes object place start.own v related x way.within g
 
         within : IsWithin start.own x
-        within = subst (IsWithin start.own) inside.leaves ((related_led leaves keeps answers start.own object place at v way.within).told related inside.answer)
+        within = subst (IsWithin start.own) inside.leaves ((related_led leaves reads keeps answers start.own object place at v way.within).told related inside.answer)
 
         by : (waits : Bool) → is_unloaded (link_at v.own.graph object place) ≡ waits → IsReadOnce object place v x
         by true waits = waiting_read v x way within (read_goes object place v related x way.nothing waits inside)

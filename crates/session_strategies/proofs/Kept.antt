@@ -10,21 +10,24 @@ use Rattle.object_arena.specs.declared.object.Link.TheVariants.{Unset, Unloaded,
 use Rattle.object_arena.specs.declared.object.Object.{Object}
 use Rattle.object_arena.specs.declared.object.State.{State}
 use Rattle.object_arena.specs.declared.object.State.TheVariants.{Transient, Pending, Persistent, Deleted, Detached}
-use Rattle.object_arena.specs.Graph.{is_among, is_persistent, no_object}
+use Rattle.object_arena.specs.Graph.{is_among, is_persistent, no_object, object_at}
 use Rattle.object_arena.specs.Identity.{id_of_place}
 use Rattle.graph_flushed.specs.Flushed.{Written, deleted_object, graph_written, held_or, kept_cell, kept_link, key_of, new_cell, new_object, object_in, prepared_links, staying_cell, staying_object, value_come, written_with}
 use Rattle.graph_flushed.proofs.ObjectSteps.{flushed_at, flushed_long}
-use Rattle.session_calls.specs.Parts.{World, checked}
+use Rattle.session_calls.specs.Parts.{World}
 use Rattle.session_calls.specs.Steps.{enter}
-use Rattle.session_acts.specs.Flush.{flush, prepared_of}
+use Rattle.prepared_objects.specs.Leaving.{prepared_of, starts_deletes}
+use Rattle.session_acts.specs.Flush.{flush}
 use Rattle.session_acts.specs.Outcome.{changes_of}
-use Rattle.session_acts.specs.Steps.{flush_now, flush_whole, orphan_fault}
+use Rattle.session_acts.specs.Steps.{flush_now}
 use Rattle.loading_laws.specs.Strategies.Filled.{Goes}
 use Rattle.loading_laws.proofs.Strategies.Goes.{parted}
-use Rattle.session_laws.specs.Sound.{EachObject, IsSettled}
-use Rattle.session_laws.proofs.Flushes.Flushing.{flush_sent}
-use Rattle.session_laws.proofs.Health.Acts.{FlushLeavesSound, FlushWritesAll, enter_led}
-use Rattle.session_laws.proofs.Sound.Programs.{checked_same}
+use Rattle.session_laws.specs.Flushes.{prepared_world}
+use Rattle.session_laws.specs.Sound.{EachObject, IsMarkedRight, IsSettled}
+use Rattle.session_laws.proofs.Flushes.Again.{here_at, none_starts}
+use Rattle.session_laws.proofs.Flushes.Flushing.{IsFlushSent, flush_sent}
+use Rattle.session_laws.proofs.Flushes.Reading.{prepare_marks}
+use Rattle.session_laws.proofs.Health.Acts.{FlushWritesAll, enter_led}
 use Rattle.session_strategies.specs.Asked.{written}
 use Rattle.session_strategies.specs.Strategies.{FlushesLeaveNothing}
 use Rattle.session_strategies.specs.Unwritten.{NothingIsLeft}
@@ -92,28 +95,27 @@ module _ (done : Written) (object : ObjId) (it : Object) where
   kept_in Deleted is = record { cells = outside Deleted is refl; links = outside Deleted is refl }
   kept_in Detached is = record { cells = outside Detached is refl; links = outside Detached is refl }
 
-all_kept : (done : Written) → EachObject IsSettled (graph_written done) → NothingIsLeft (graph_written done)
-all_kept done settled = λ place less.
+all_kept : (done : Written) → EachObject IsSettled (graph_written done) → ((object : ObjId) → starts_deletes (object_at (graph_written done) object) ≡ false) → NothingIsLeft (graph_written done)
+all_kept done settled stays = λ place less.
     let within : place < length done.graph.objects = omega (arith, less, flushed_long done) in
     let it : Object = get_or done.graph.objects place no_object in
     let kept : IsKept (get_or (graph_written done).objects place no_object) = subst IsKept (sym (flushed_at done place within)) (kept_in done (id_of_place place) it it.state refl) in
-    record { settled = settled place less; cells = kept.cells; links = kept.links }
+    record { settled = settled place less; stays = ap starts_deletes (sym (here_at (graph_written done) place)) ∙ stays (id_of_place place); cells = kept.cells; links = kept.links }
 
 -- ---- the flush
 
-pub nothing_left : FlushLeavesSound → FlushWritesAll → FlushesLeaveNothing
-unfolding flush_now flush_whole
-nothing_left keeps answers world hale is =
+pub nothing_left : FlushWritesAll → FlushesLeaveNothing
+unfolding flush_now
+nothing_left answers world hale is =
     let start : World = (enter world).after in
-    let two = parted enter (λ (u : Unit {0}). flush_whole) world tt (written world) (record { answer = is; leaves = refl }) in
-    let whole : Goes flush_whole start tt (written world) = subst (λ (v : World). Goes flush_whole v tt (written world)) (sym two.first.leaves) two.second in
-    let three = parted (checked orphan_fault) (λ (u : Unit {0}). flush) start tt (written world) (record { answer = whole.answer; leaves = whole.leaves }) in
-    let same : three.between ≡ start = sym three.first.leaves ∙ checked_same orphan_fault start in
-    let flushed : Goes flush start tt (written world) = subst (λ (v : World). Goes flush v tt (written world)) same three.second in
+    let two = parted enter (λ (u : Unit {0}). flush) world tt (written world) (record { answer = is; leaves = refl }) in
+    let flushed : Goes flush start tt (written world) = subst (λ (v : World). Goes flush v tt (written world)) (sym two.first.leaves) two.second in
     let inside = (enter_led world (record { fit = hale.keyed.fit; handled = hale.handled }) hale.healthy).told two.value two.first.answer in
-    let sent = flush_sent start flushed.answer in
-    let done : Written = written_with start.own.mapping (prepared_of start.own.graph) (changes_of start.own) sent.given start.own.graph in
+    let mid : World = prepared_world start in
+    let sent : IsFlushSent mid (flush start).after = (flush_sent start flushed.answer).sent in
+    let done : Written = written_with mid.own.mapping (prepared_of mid.own.mapping mid.own.graph) (changes_of mid.own) sent.given mid.own.graph in
     let settled : EachObject IsSettled (graph_written done) = subst (EachObject IsSettled) {y = graph_written done} sent.objects (answers world.own.mapping start inside flushed.answer).1 in
+    let marks : EachObject IsMarkedRight mid.own.graph = prepare_marks start inside.healthy.sound.marked in
     let objects : (flush start).after.own.graph ≡ graph_written done = sent.objects in
     let same : graph_written done ≡ (written world).own.graph = sym objects ∙ ap (λ (v : World). v.own.graph) flushed.leaves in
-    subst NothingIsLeft {y = (written world).own.graph} same (all_kept done settled)
+    subst NothingIsLeft {y = (written world).own.graph} same (all_kept done settled (none_starts mid.own.mapping mid.own.graph (changes_of mid.own) sent.given marks))

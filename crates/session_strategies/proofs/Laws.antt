@@ -34,6 +34,7 @@ use Rattle.loading_laws.proofs.MainSelects.Unjoined.{plain_query}
 use Rattle.loading_laws.specs.Strategies.Filled.{Goes}
 use Rattle.session_calls.specs.Parts.{World}
 use Rattle.session_laws.specs.Loads.{loading_of}
+use Rattle.session_laws.specs.Preparing.{PreparationsLeaveReread}
 use Rattle.session_laws.specs.Whole.{IsHale}
 use Rattle.session_scopes.specs.Loads.{on_load}
 use Rattle.session_laws.proofs.Whole.Inside.{IsWithin}
@@ -72,7 +73,7 @@ loadable query world hale is = record {
   fit = hale.keyed.fit;
 }
 
-module _ (keeps : FlushLeavesSound) (answers : FlushWritesAll) (query : ObjectQuery) (objects answered together : List ObjId) (world first after batch : World) (hale : IsHale world) (asked : AreSelected query objects answered together world first after batch) where
+module _ (reads : PreparationsLeaveReread) (keeps : FlushLeavesSound) (answers : FlushWritesAll) (query : ObjectQuery) (objects answered together : List ObjId) (world first after batch : World) (hale : IsHale world) (asked : AreSelected query objects answered together world first after batch) where
   abbrev here : World
   here = written world
 
@@ -92,7 +93,7 @@ module _ (keeps : FlushLeavesSound) (answers : FlushWritesAll) (query : ObjectQu
   selectin = call_loads (by_selects query) world together batch asked.selectin
 
   can : IsLoadable mapped query start
-  can = loadable query here (written_led keeps answers world hale).here asked.query_is
+  can = loadable query here (written_led reads keeps answers world hale).here asked.query_is
 
   own_goes : Goes (load_select mapped query) start objects own.now
   own_goes = own_loaded mapped query start objects own.now own.loaded
@@ -131,7 +132,7 @@ module _ (keeps : FlushLeavesSound) (answers : FlushWritesAll) (query : ObjectQu
   -- what the objects hold once all is written is what their rows have, and behind the first call they are of their rows' classes
   settled : AreOfTheirRows mapped (bare own.now.store.tables) own.now.own.graph → AreSettled mapped start own.now
   settled of_rows = record {
-    fresh = fresh_of mapped here.store.tables here.own.graph (written_led keeps answers world hale).here.healthy.sound.fresh (nothing_left keeps answers world hale own.flushed);
+    fresh = fresh_of mapped here.store.tables here.own.graph (written_led reads keeps answers world hale).here.healthy.sound.fresh (nothing_left answers world hale own.flushed);
     own = subst (λ (s : Store). AreOfTheirRows mapped (bare s.tables) own.now.own.graph) (first_stays mapped query objects answered together start own.now joined.now selectin.now can asked.query_is.selectin own_goes joined_goes together_goes) of_rows;
   }
 
@@ -191,12 +192,12 @@ module _ (keeps : FlushLeavesSound) (answers : FlushWritesAll) (query : ObjectQu
       unfolding on_load
       within =
           subst (λ (u : loads.World). IsWithin world.own (taking u here)) own.loaded.leaves
-          ((loaded_going leaves (Load.Objects (lazily query)) load world.own here is_load may ((written_led keeps answers world hale).told tt own.flushed)).told objects own.loaded.answer)
+          ((loaded_going leaves (Load.Objects (lazily query)) load world.own here is_load may ((written_led reads keeps answers world hale).told tt own.flushed)).told objects own.loaded.answer)
 
       nothing : NothingIsLeft own.now.own.graph
       nothing =
           subst (λ (u : loads.World). NothingIsLeft u.own.graph) (sym is_load ∙ own.loaded.leaves)
-          (load_left selects owns mains leaves here (written_led keeps answers world hale).here (Load.Objects (lazily query)) may (nothing_left keeps answers world hale own.flushed))
+          (load_left selects owns mains leaves here (written_led reads keeps answers world hale).here (Load.Objects (lazily query)) may (nothing_left answers world hale own.flushed))
 
       abbrev Reads : World → World → World → Type 0
       Reads first after batch =
@@ -216,7 +217,7 @@ module _ (keeps : FlushLeavesSound) (answers : FlushWritesAll) (query : ObjectQu
           let read = to_read mapped query objects answered together start own.now joined.now selectin.now can asked.query_is.selectin own_goes joined_goes together_goes (settled first_rows) batch_of place one owner other (owner_by by) by.selectin by.other_among by.other_same in
           let held : HoldsRows mapped relation rows old lazy.own.graph (link_at lazy.own.graph one place) =
           read.held lazy.own.graph (link_at lazy.own.graph one place)
-          (links_hold selects owns mains leaves keeps answers (taking own.now here) read.stage relation place one all read.ready read.rows read.waits world.own links lazy within nothing (read.can links turn.are) among
+          (links_hold selects owns mains leaves reads keeps answers (taking own.now here) read.stage relation place one all read.ready read.rows read.waits world.own links lazy within nothing (read.can links turn.are) among
           (read.agrees (loading_of lazy)) lazy_rows turn.read) in
           record {
             one_holds = held;
@@ -226,16 +227,16 @@ module _ (keeps : FlushLeavesSound) (answers : FlushWritesAll) (query : ObjectQu
             one_and_another = holds_alike mapped relation rows old lazy.own.graph selectin.now.own.graph (link_at lazy.own.graph one place) (link_at selectin.now.own.graph other place) held both.selectin;
           }
 
-      pub reads : Reads first after batch
-      reads =
+      pub read_in_turn : Reads first after batch
+      read_in_turn =
           subst (λ (v : World). Reads v after batch) own.is (subst (λ (v : World). Reads (taking own.now here) v batch) joined.is (subst (λ (v : World). Reads (taking own.now here) (taking joined.now here) v) selectin.is reads_taking))
 
-pub answer_alike : FlushLeavesSound → FlushWritesAll → CallsAnswerAlike
-answer_alike keeps answers query objects answered together world first after batch hale asked = alike keeps answers query objects answered together world first after batch hale asked
+pub answer_alike : PreparationsLeaveReread → FlushLeavesSound → FlushWritesAll → CallsAnswerAlike
+answer_alike reads keeps answers query objects answered together world first after batch hale asked = alike reads keeps answers query objects answered together world first after batch hale asked
 
-pub fill_alike : FlushLeavesSound → FlushWritesAll → CallsFillAlike
-fill_alike keeps answers query objects answered together world first after batch place one owner other hale asked = fills keeps answers query objects answered together world first after batch hale asked place one owner other
+pub fill_alike : PreparationsLeaveReread → FlushLeavesSound → FlushWritesAll → CallsFillAlike
+fill_alike reads keeps answers query objects answered together world first after batch place one owner other hale asked = fills reads keeps answers query objects answered together world first after batch hale asked place one owner other
 
-pub read_alike : FlushLeavesSound → FlushWritesAll → SelectsAnswerTableRows → OwnSelectsAnswerTableRows → MainSelectsAnswerTableRows → LoadsLeaveLoaded → CallsReadAlike
-read_alike keeps answers selects owns mains leaves query objects answered together world first after batch place one owner other links lazy hale asked =
-    reads keeps answers query objects answered together world first after batch hale asked place one owner other selects owns mains leaves links lazy
+pub read_alike : PreparationsLeaveReread → FlushLeavesSound → FlushWritesAll → SelectsAnswerTableRows → OwnSelectsAnswerTableRows → MainSelectsAnswerTableRows → LoadsLeaveLoaded → CallsReadAlike
+read_alike reads keeps answers selects owns mains leaves query objects answered together world first after batch place one owner other links lazy hale asked =
+    read_in_turn reads keeps answers query objects answered together world first after batch hale asked place one owner other selects owns mains leaves links lazy

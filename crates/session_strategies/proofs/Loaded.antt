@@ -37,9 +37,11 @@ use Rattle.load_steps.specs.Based.{AreReadOfTables, IsRowOfTables}
 use Rattle.load_steps.specs.Loads.{CanLoad, IsLoadStage, Load}
 use Rattle.load_steps.specs.Steps.{AreLoadSteps}
 use Rattle.load_steps.proofs.Loads.{load_leaves, rows_of_tables}
+use Rattle.prepared_objects.specs.Leaving.{starts_deletes}
 use Rattle.ranked_rows.specs.Laws.{MainSelectsAnswerTableRows, OwnSelectsAnswerTableRows, SelectsAnswerTableRows}
 use Rattle.session_calls.specs.Parts.{World}
-use Rattle.session_laws.specs.Loads.{IsLoadOf, IsReadCell, IsReadFrom, loading_of, row_value}
+use Rattle.load_steps.specs.Loaded.{IsReadCell}
+use Rattle.session_laws.specs.Loads.{IsLoadOf, IsReadFrom, loading_of, row_value}
 use Rattle.session_laws.specs.Sound.{EachObject, IsSettled}
 use Rattle.session_laws.specs.Whole.{IsHale}
 use Rattle.session_laws.proofs.OwnRows.Standing.{hierarchies}
@@ -223,11 +225,12 @@ module _ (selects : SelectsAnswerTableRows) (owns : OwnSelectsAnswerTableRows) (
   can (Load.Query query) may = (may.0.own.class, may.1, may.2, mains mapped tables query has hale.keyed.well.related legal may.0)
 
   -- what was read of an object of which nothing was left leaves nothing
-  object_left : (was now : Object) → IsReadFrom mapped tables was now → IsSettled was → (is_persistent was.state ≡ true → AllByRecursion IsKeptCell was.cells) → KeepsLinks now → IsAsFlushed now
-  object_left was now read settled cells kept =
+  object_left : (was now : Object) → IsReadFrom mapped tables was now → IsSettled was → starts_deletes was ≡ false → (is_persistent was.state ≡ true → AllByRecursion IsKeptCell was.cells) → KeepsLinks now → IsAsFlushed now
+  object_left was now read settled stays cells kept =
       let state : now.state ≡ was.state = ap (λ (o : Object). o.state) read.rest in
       record {
         settled = record { settled = λ pending. settled.settled (sym state ∙ pending); unmarked = ap (λ (o : Object). o.marked) read.rest ∙ settled.unmarked };
+        stays = ap starts_deletes read.rest ∙ stays;
         cells = λ persistent.
             let before : AllByRecursion IsKeptCell was.cells = cells (sym (ap is_persistent state) ∙ persistent) in
             each_at now.cells
@@ -252,8 +255,8 @@ module _ (selects : SelectsAnswerTableRows) (owns : OwnSelectsAnswerTableRows) (
 
       by : (place : ℕ) → place < length now.objects → (place < length world.own.graph.objects) ⊎ (length world.own.graph.objects ≤ place) → IsAsFlushed (get_or now.objects place no_object)
       by place less (inl before) =
-          object_left (get_or world.own.graph.objects place no_object) (get_or now.objects place no_object) (of.read place before) (nothing place before).settled (nothing place before).cells (kept place less)
+          object_left (get_or world.own.graph.objects place no_object) (get_or now.objects place no_object) (of.read place before) (nothing place before).settled (nothing place before).stays (nothing place before).cells (kept place less)
       by place less (inr behind) =
           let made = of.made place behind less in
           let it : Object = get_or now.objects place no_object in
-          object_left (loaded_object mapped it.class made.0) it made.1 (record { settled = λ pending. absurd cc; unmarked = refl }) (λ persistent. expired_all (attributes_of mapped it.class)) (kept place less)
+          object_left (loaded_object mapped it.class made.0) it made.1 (record { settled = λ pending. absurd cc; unmarked = refl }) refl (λ persistent. expired_all (attributes_of mapped it.class)) (kept place less)

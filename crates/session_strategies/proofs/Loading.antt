@@ -16,10 +16,12 @@ use Rattle.loading_laws.proofs.MainSelects.Unjoined.{plain_query}
 use Rattle.loading_laws.proofs.Strategies.Goes.{given, parted}
 use Rattle.session_scopes.specs.Loads.{on_load, with_loaded}
 use Rattle.session_calls.specs.Parts.{World}
-use Rattle.session_acts.specs.Steps.{flush_now, flush_whole}
+use Rattle.session_acts.specs.Flush.{flush}
+use Rattle.session_acts.specs.Steps.{flush_now}
 use Rattle.session_calls.specs.Steps.{enter}
 use Rattle.session_loads.specs.Queries.{load_query, select_objects}
 use Rattle.session_laws.specs.Loads.{loading_of}
+use Rattle.session_laws.specs.Preparing.{PreparationsLeaveReread}
 use Rattle.session_laws.specs.Whole.{IsHale}
 use Rattle.session_laws.proofs.Health.Acts.{FlushLeavesSound, FlushWritesAll, IsLed, led_then}
 use Rattle.session_laws.proofs.Whole.Inside.{IsWithin, enter_within, flush_within}
@@ -28,9 +30,9 @@ use Rattle.session_strategies.proofs.Programs.{goes_same, goes_then}
 
 -- ---- the flush
 
-pub written_led : FlushLeavesSound → FlushWritesAll → (world : World) → IsHale world → IsLed IsHale (IsWithin world.own) (flush_now world)
+pub written_led : PreparationsLeaveReread → FlushLeavesSound → FlushWritesAll → (world : World) → IsHale world → IsLed IsHale (IsWithin world.own) (flush_now world)
 unfolding flush_now
-written_led keeps answers world hale = led_then IsHale (IsWithin world.own) (IsWithin world.own) enter (λ u. flush_whole) world (enter_within world hale) (λ u it. flush_within keeps answers world.own (enter world).after it)
+written_led reads keeps answers world hale = led_then IsHale (IsWithin world.own) (IsWithin world.own) enter (λ u. flush) world (enter_within world hale) (λ u it. flush_within reads keeps answers world.own (enter world).after it)
 
 -- ---- the load
 

@@ -23,7 +23,6 @@ use Rattle.session_calls.specs.Parts.{World, checked}
 use Rattle.session_calls.specs.Steps.{enter}
 use Rattle.session_links.specs.declared.reading.Related.{Related}
 use Rattle.session_acts.specs.Flush.{flush}
-use Rattle.session_acts.specs.Steps.{flush_whole, orphan_fault}
 use Rattle.session_loads.specs.Asking.{is_unloaded_in, link_fault}
 use Rattle.session_loads.specs.Reads.{fetch_link, fill_attached, fill_link, if_asked, load_link, read_related, related_in, tell_related, write_and_fill}
 use Rattle.session_laws.specs.Loads.{loading_of}
@@ -115,15 +114,14 @@ module _ (object : ObjId) (place : RelNo) where
       unasked_same (write_and_fill object place) w x (is_unloaded_in object place w.own) (unloaded_as w ∙ loaded) (record { answer = found.answer; leaves = found.leaves })
 
   pub read_goes : (w : World) (related : Related) (x : World) → NothingIsLeft w.own.graph → is_unloaded (link_at w.own.graph object place) ≡ true → Goes (tell_related object place) w related x → IsLazyLoad object place w x
-  unfolding fetch_link fill_attached fill_link flush_whole by_own
+  unfolding fetch_link fill_attached fill_link by_own
   read_goes w related x nothing waits g =
       let unloaded : is_unloaded_in object place w.own ≡ true = unloaded_as w ∙ waits in
       let found = fetched w related x g in
       let asked : Goes (write_and_fill object place) w tt x = asked_goes (write_and_fill object place) w x (is_unloaded_in object place w.own) unloaded (record { answer = found.answer; leaves = found.leaves }) in
       -- the flush, which leaves the objects as they are
-      let flushed = parted flush_whole (λ (u : Unit {0}). fill_attached object place) w tt x asked in
-      let wrote = passed orphan_fault (λ u. flush) w tt flushed.between (record { answer = flushed.first.answer; leaves = flushed.first.leaves }) in
-      let kept : IsSame w flushed.between = subst (IsSame w) wrote.leaves (flush_same w nothing wrote.answer) in
+      let flushed = parted flush (λ (u : Unit {0}). fill_attached object place) w tt x asked in
+      let kept : IsSame w flushed.between = subst (IsSame w) flushed.first.leaves (flush_same w nothing flushed.first.answer) in
       let still : is_unloaded_in object place flushed.between.own ≡ true = ap (λ (graph : Graph). mirror.is_unloaded (mirror.link_at graph object place)) kept.graph ∙ unloaded in
       -- the load
       let attached = passed (link_fault object place) (λ u. fill_link object place) flushed.between tt x (record { answer = flushed.second.answer; leaves = flushed.second.leaves }) in

@@ -18,6 +18,7 @@ use ranked_rows::{
 };
 use session_laws::{
     a_flush_keeps_a_told_session_sound, an_answered_flush_of_a_told_session_leaves_sound,
+    preparations_keep_sessions_whole,
 };
 use session_load_laws::{loads_leave_loaded, readings_tell_made_objects};
 
@@ -27,17 +28,17 @@ use session_load_laws::{loads_leave_loaded, readings_tell_made_objects};
 pub fn selectins_ask_in_batches()
     ensures { SelectinsAskInBatches }
 {
+    preparations_keep_sessions_whole();
     a_flush_keeps_a_told_session_sound();
     an_answered_flush_of_a_told_session_leaves_sound();
     readings_tell_made_objects();
 }
 
-/// A flush that answers leaves nothing to flush: no object is pending or marked, what is known of the cells of a persistent one is what
-/// its rows hold, and none of its links is changed.
+/// A flush that answers leaves nothing to flush: no object is pending or marked, no persistent one was left by its parent, what is known
+/// of its cells is what its rows hold, and none of its links is changed.
 pub fn flushes_leave_nothing()
     ensures { FlushesLeaveNothing }
 {
-    a_flush_keeps_a_told_session_sound();
     an_answered_flush_of_a_told_session_leaves_sound();
 }
 
@@ -62,6 +63,7 @@ pub fn loads_leave_nothing()
 pub fn calls_answer_alike()
     ensures { CallsAnswerAlike }
 {
+    preparations_keep_sessions_whole();
     a_flush_keeps_a_told_session_sound();
     an_answered_flush_of_a_told_session_leaves_sound();
 }
@@ -73,6 +75,7 @@ pub fn calls_answer_alike()
 pub fn calls_fill_alike()
     ensures { CallsFillAlike }
 {
+    preparations_keep_sessions_whole();
     a_flush_keeps_a_told_session_sound();
     an_answered_flush_of_a_told_session_leaves_sound();
 }
@@ -83,6 +86,7 @@ pub fn calls_fill_alike()
 pub fn calls_read_alike()
     ensures { CallsReadAlike }
 {
+    preparations_keep_sessions_whole();
     a_flush_keeps_a_told_session_sound();
     an_answered_flush_of_a_told_session_leaves_sound();
     selects_answer_table_rows();

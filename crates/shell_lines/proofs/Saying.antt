@@ -1,5 +1,5 @@
 -- What a line comes to, as a run that sends nothing.
-use Rattle.std.proofs.Common.{◌≡◌, ℕ, Bool, true, false, if◌then◌else◌, List, Option, None, Some, Result, Ok, Err, IfErr, IsErrAnd, refl, sym, ap, ◌∙◌, subst}
+use Rattle.std.proofs.Common.{◌≡◌, ℕ, Bool, true, false, if◌then◌else◌, List, Option, None, Some, Result, Ok, Err, IsErrAnd, refl, sym, ap, ◌∙◌, subst}
 use Rattle.base_core.specs.Answers.{Gives}
 use Rattle.base_core.specs.declared.refusal.Refusal.{Refusal}
 use Rattle.base_core.specs.declared.refusal.Refusal.TheVariants.{Memory, NotBuilt, ScriptError}
@@ -25,11 +25,6 @@ says_here run other r now is p = subst (λ (m : Run DeskState Said). Says m r no
 says_err : (run : Run DeskState Said) (e : Refusal) (now : DeskState) → IsOwn e → run ≡ quiet (Err e) now → Says run (Err e) now
 says_err run Memory now own is = tt
 says_err run e now own is = (is, own)
-
--- an answer that is told, with the state then
-says_told : (run : Run DeskState Said) (told r : Result Said Refusal) (state now : DeskState) → run ≡ quiet told state → r ≡ told → state ≡ now → IfErr r IsOwn → Says run r now
-says_told run told (Ok said) state now is same here own = is ∙ ap (λ (t : Result Said Refusal). quiet t state) (sym same) ∙ ap (λ (s : DeskState). quiet (Ok said) s) here
-says_told run told (Err e) state now is same here own = says_err run e now own (is ∙ ap (λ (t : Result Said Refusal). quiet t state) (sym same) ∙ ap (λ (s : DeskState). quiet (Err e) s) here)
 
 -- ---- the next line
 
@@ -117,7 +112,7 @@ outside_by skip head configure command desk =
     if skip then quiet (Ok Nothing) desk
     else if head then opened (block_of command desk.line) desk
     else if configure then quiet (Ok Configure) desk
-    else quiet (done_of command) desk
+    else quiet (Ok (done_of command)) desk
 
 pub says_skip : (command : Command) (own : DeskState) → is_skip command ≡ true → Says (said_outside command own) (Ok Nothing) own
 says_skip command own skip = ap (λ (b : Bool). outside_by b (is_head command) (is_configure command) command own) skip
@@ -132,11 +127,10 @@ says_configure command own skip head configure =
     ap (λ (b : Bool). outside_by b (is_head command) (is_configure command) command own) skip ∙ ap (λ (b : Bool). outside_by false b (is_configure command) command own) head
     ∙ ap (λ (b : Bool). outside_by false false b command own) configure
 
-pub says_done : (command : Command) (own : DeskState) (r : Result Said Refusal) → is_skip command ≡ false → is_head command ≡ false → is_configure command ≡ false → r ≡ done_of command → IfErr r IsOwn → Says (said_outside command own) r own
-says_done command own r skip head configure is cause =
-    says_told (said_outside command own) (done_of command) r own own
-    (ap (λ (b : Bool). outside_by b (is_head command) (is_configure command) command own) skip ∙ ap (λ (b : Bool). outside_by false b (is_configure command) command own) head
-    ∙ ap (λ (b : Bool). outside_by false false b command own) configure) is refl cause
+pub says_done : (command : Command) (own : DeskState) (said : Said) → is_skip command ≡ false → is_head command ≡ false → is_configure command ≡ false → said ≡ done_of command → Says (said_outside command own) (Ok said) own
+says_done command own said skip head configure is =
+    ap (λ (b : Bool). outside_by b (is_head command) (is_configure command) command own) skip ∙ ap (λ (b : Bool). outside_by false b (is_configure command) command own) head
+    ∙ ap (λ (b : Bool). outside_by false false b command own) configure ∙ ap (λ (s : Said). quiet (Ok s) own) (sym is)
 
 pub ruleset outside = (says_skip, says_head, says_configure, says_done)
 

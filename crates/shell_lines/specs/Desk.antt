@@ -1,7 +1,6 @@
 -- What a line of a script comes to before the session is asked: which line it is, the block that is open, and what is to be done.
 use Rattle.std.specs.Prelude.{ℕ, ◌+◌, ◌-◌, ◌^◌, min, Bool, true, false, List, Option, None, Some, Result, Ok, Err, if◌then◌else◌}
 use Rattle.base_core.specs.declared.refusal.Refusal.{Refusal}
-use Rattle.base_core.specs.declared.refusal.Refusal.TheVariants.{NotBuilt}
 use Rattle.script_types.specs.declared.command.Command.{Command}
 use Rattle.script_types.specs.declared.command.Command.TheVariants as line
 use Rattle.script_types.specs.declared.command.Inside.{Inside}
@@ -13,7 +12,7 @@ use Rattle.shell_parts.specs.declared.block.Block.{Block}
 use Rattle.shell_parts.specs.Blocks.{block_of, forms_of, with_line}
 use Rattle.shell_lines.specs.declared.desk.Said.{Said}
 use Rattle.shell_lines.specs.declared.desk.Said.TheVariants.{Nothing, Configure, Declare, Compile, Do}
-use Rattle.shell_lines.specs.Lines.{is_built, is_compiled, is_end}
+use Rattle.shell_lines.specs.Lines.{is_compiled, is_end}
 
 -- the block that is open, the number of the last line, and whether some command was refused
 pub record DeskState : Type 0 where
@@ -41,14 +40,13 @@ abbrev pub opened : Result Block Refusal → DeskState → Run DeskState Said
 opened (Ok block) desk = quiet (Ok Nothing) (with_block (Some block) desk)
 opened (Err e) desk = quiet (Err e) desk
 
-abbrev pub done_if : Bool → Bool → Command → Result Said Refusal
-done_if true built command = Ok (Compile command)
-done_if false true command = Ok (Do command)
-done_if false false command = Err NotBuilt
+abbrev pub done_if : Bool → Command → Said
+done_if true command = Compile command
+done_if false command = Do command
 
--- a line that only compiles is to be compiled; of the others those whose form is built are to be done
-abbrev pub done_of : Command → Result Said Refusal
-done_of command = done_if (is_compiled command) (is_built command) command
+-- a line that only compiles is to be compiled, and any other is to be done
+abbrev pub done_of : Command → Said
+done_of command = done_if (is_compiled command) command
 
 -- a blank line or a comment
 abbrev pub is_skip : Command → Bool
@@ -65,13 +63,13 @@ abbrev pub is_configure : Command → Bool
 is_configure line.Configure = true
 is_configure command = false
 
--- a head opens a block; of the other lines those whose form is built are to be done
+-- a head opens a block; most other lines are to be done
 abbrev pub said_outside : Command → DeskState → Run DeskState Said
 said_outside command desk =
     if is_skip command then quiet (Ok Nothing) desk
     else if is_head command then opened (block_of command desk.line) desk
     else if is_configure command then quiet (Ok Configure) desk
-    else quiet (done_of command) desk
+    else quiet (Ok (done_of command)) desk
 
 -- ---- a line of a block
 

@@ -1,14 +1,14 @@
 //! The lines of a script one after another, with the block that is open.
 
-ghost use Rattle.std.specs.Prelude.{◌≡◌, IfErr, IfOk, None};
-ghost use Rattle.keeper_core.specs.Alone.{IsOwn, IsQuiet};
+ghost use Rattle.std.specs.Prelude.{◌≡◌, IfOk, None};
+ghost use Rattle.keeper_core.specs.Alone.{IsQuiet};
 ghost use Rattle.sayable_lines.specs.Sayable.{IsSayable};
 ghost use Rattle.script_read.specs.Line.{line as said_by};
 ghost use Rattle.shell_parts.specs.Blocks.{block_of};
 ghost use Rattle.shell_lines.specs.Desk as desk;
 ghost use Rattle.shell_lines.specs.Desk.{CanBeDone};
 
-use crate::lines::{is_built, is_compiled, is_end};
+use crate::lines::{is_compiled, is_end};
 use base_core::Refusal;
 use sayable_lines::read_line;
 use script_types::{Command, Inside};
@@ -102,7 +102,7 @@ impl Desk {
     ///
     /// # Errors
     /// `ScriptError` with the line's number and the column at which no line of the forms goes on; in a block the lines behind it are
-    /// skipped. `NotBuilt` for a line outside blocks whose form is not built. `Memory`.
+    /// skipped. `Memory`.
     #[tactic(auto, using(crate::proofs::Saying::saying))]
     pub fn say(&mut self, alloc: Global, line: &[u8]) -> Result<Said, Refusal>
         ensures said { IsQuiet (λ said. said)
@@ -200,7 +200,7 @@ impl Desk {
         Ok(Said::Nothing)
     }
 
-    /// A head opens a block; of the other lines those whose form is built are to be done.
+    /// A head opens a block; most other lines are to be done.
     #[tactic(auto, using(crate::proofs::Saying::outside))]
     fn say_outside(&mut self, alloc: Global, command: Command) -> Result<Said, Refusal>
         requires sayable { IsSayable command }
@@ -219,7 +219,7 @@ impl Desk {
             command.let_go();
             return Ok(Said::Configure);
         }
-        done_if_built(command)
+        Ok(done_of(command))
     }
 
     /// The head opens its block.
@@ -236,20 +236,15 @@ impl Desk {
 }
 
 /// What every other line outside blocks comes to.
-fn done_if_built(command: Command) -> Result<Said, Refusal>
+fn done_of(command: Command) -> Said
     requires sayable { IsSayable command }
     ensures said { result ≡ desk.done_of command }
-    ensures done { IfOk result CanBeDone }
-    ensures own { IfErr result IsOwn }
+    ensures done { CanBeDone result }
 {
     if is_compiled(&command) {
-        return Ok(Said::Compile(command));
+        return Said::Compile(command);
     }
-    if is_built(&command) {
-        return Ok(Said::Do(command));
-    }
-    command.let_go();
-    Err(Refusal::NotBuilt)
+    Said::Do(command)
 }
 
 /// The block with one more line.

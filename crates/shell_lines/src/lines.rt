@@ -1,45 +1,11 @@
-//! Which lines are built, and the end of a block whose lines are skipped.
+//! Which lines only compile, and the end of a block whose lines are skipped.
 
 ghost use Rattle.std.specs.Prelude.{◌≡◌};
 ghost use Rattle.std.specs.List.{list_all};
 ghost use Rattle.script_lex.specs.Lex.{is_blank as blank};
-ghost use Rattle.shell_lines.specs.Lines.{is_built as is_built_line, is_compiled as is_compiled_line, is_end as is_end_line, is_end_text};
+ghost use Rattle.shell_lines.specs.Lines.{is_compiled as is_compiled_line, is_end as is_end_line, is_end_text};
 
 use script_types::Command;
-
-/// Whether the form of a line that a session does is built.
-pub(crate) fn is_built(line: &Command) -> bool
-    ensures { result ≡ is_built_line line.now }
-{
-    matches!(
-        line,
-        Command::CreateAll
-            | Command::DropAll
-            | Command::Dump
-            | Command::New { .. }
-            | Command::Get { .. }
-            | Command::Objects { .. }
-            | Command::Related { .. }
-            | Command::BeginNested(_)
-            | Command::SetValue { .. }
-            | Command::SetTerm { .. }
-            | Command::Append { .. }
-            | Command::Remove { .. }
-            | Command::Add(_)
-            | Command::Delete(_)
-            | Command::Refresh(_)
-            | Command::Show(_)
-            | Command::ShowMember(_, _)
-            | Command::State(_)
-            | Command::Same(_, _)
-            | Command::Flush
-            | Command::Commit(_)
-            | Command::Rollback(_)
-            | Command::Close
-            | Command::Rows(_)
-            | Command::Bulk(_)
-    )
-}
 
 /// Whether a line only compiles.
 pub(crate) fn is_compiled(line: &Command) -> bool

@@ -5,12 +5,12 @@ ghost use Rattle.std.specs.List.{list_all};
 ghost use Rattle.schema_core.specs.Catalog.{spec_of};
 ghost use Rattle.schema_core.specs.Tables.{has_null, is_null, key_cells};
 ghost use Rattle.sql_rows.specs.Rows as spec;
-ghost use Rattle.sql_text.specs.Written.{Wrote, with_leading_separators, with_separators};
+ghost use Rattle.sql_text.specs.Pages.{WroteOn};
+ghost use Rattle.sql_text.specs.Written.{with_leading_separators, with_separators};
 
 use base_core::{ColumnNo, Dialect, RowValues, TableId, Value};
 use schema_core::{ColumnSpec, RowStmt, Schema};
-use sql_text::{Writer, column_name, columns_of, table_name, tells_key};
-use std::alloc::AllocError;
+use sql_text::{Page, column_name, columns_of, table_name, tells_key};
 
 /// Stands for the values of a row without columns.
 pub fn default_word(dialect: Dialect) -> &'static str
@@ -75,135 +75,100 @@ fn all_left_out(drawn: bool, columns: &[ColumnSpec]) -> bool
 }
 
 /// The names of the columns with a value.
-#[tactic(auto, unfolding(sql_text::specs::Written::put_all), using(sql_text::proofs::Steps::steps))]
-fn names(writer: &mut Writer, drawn: bool, columns: &[ColumnSpec]) -> Result<(), AllocError>
-    ensures { Wrote (spec.names_pieces drawn (codes " (") columns.now)
-        result writer.old writer.new }
+#[tactic(auto, unfolding(sql_text::specs::Pages::put_on, sql_text::specs::Written::put_all), using(sql_text::proofs::Pages::page_steps))]
+fn names(page: &mut Page, drawn: bool, columns: &[ColumnSpec])
+    ensures { WroteOn (spec.names_pieces drawn (codes " (") columns.now) page.old page.new }
 {
     let mut word = " (";
     for column in columns {
         if is_left_out(drawn, column) {
             continue;
         }
-        writer.put_words(word)?;
-        writer.put_name(&column.name)?;
+        page.put_words(word);
+        page.put_name(&column.name);
         word = ", ";
     }
-    Ok(())
 }
 
 /// The values of a row.
-#[tactic(auto, unfolding(sql_text::specs::Written::put_all), using(sql_text::proofs::Steps::steps))]
-fn cells(
-    writer: &mut Writer,
-    drawn: bool,
-    columns: &[ColumnSpec],
-    row: &[Value],
-) -> Result<(), AllocError>
-    ensures { Wrote (spec.row_cells drawn (codes "(") columns.now row.now)
-        result writer.old writer.new }
+#[tactic(auto, unfolding(sql_text::specs::Pages::put_on, sql_text::specs::Written::put_all), using(sql_text::proofs::Pages::page_steps))]
+fn cells(page: &mut Page, drawn: bool, columns: &[ColumnSpec], row: &[Value])
+    ensures { WroteOn (spec.row_cells drawn (codes "(") columns.now row.now) page.old page.new }
 {
     let mut word = "(";
     let mut rest = row;
     for column in columns {
         let Some((value, more)) = rest.split_first() else {
-            return Ok(());
+            return;
         };
         rest = more;
         if is_left_out(drawn, column) {
             continue;
         }
-        writer.put_words(word)?;
-        writer.put_value(&column.name, value)?;
+        page.put_words(word);
+        page.put_value(&column.name, value);
         word = ", ";
     }
-    Ok(())
 }
 
-#[tactic(auto, using(sql_text::proofs::Steps::steps))]
-fn row_list(
-    writer: &mut Writer,
-    drawn: bool,
-    columns: &[ColumnSpec],
-    row: &[Value],
-) -> Result<(), AllocError>
-    ensures { Wrote (spec.row_list drawn columns.now row.now) result writer.old writer.new }
+#[tactic(auto, using(sql_text::proofs::Pages::page_steps))]
+fn row_list(page: &mut Page, drawn: bool, columns: &[ColumnSpec], row: &[Value])
+    ensures { WroteOn (spec.row_list drawn columns.now row.now) page.old page.new }
 {
-    cells(writer, drawn, columns, row)?;
-    writer.put_words(")")
+    cells(page, drawn, columns, row);
+    page.put_words(")");
 }
 
-#[tactic(auto, unfolding(sql_text::specs::Written::put_all), using(sql_text::proofs::Steps::steps))]
-fn more_rows(
-    writer: &mut Writer,
-    drawn: bool,
-    columns: &[ColumnSpec],
-    rows: &[RowValues],
-) -> Result<(), AllocError>
-    ensures { Wrote (with_leading_separators (codes ", ") (spec.row_list drawn columns.now) rows.now)
-        result writer.old writer.new }
+#[tactic(auto, unfolding(sql_text::specs::Pages::put_on, sql_text::specs::Written::put_all), using(sql_text::proofs::Pages::page_steps))]
+fn more_rows(page: &mut Page, drawn: bool, columns: &[ColumnSpec], rows: &[RowValues])
+    ensures { WroteOn (with_leading_separators (codes ", ") (spec.row_list drawn columns.now)
+        rows.now) page.old page.new }
 {
     for row in rows {
-        writer.put_words(", ")?;
-        row_list(writer, drawn, columns, row.as_slice())?;
+        page.put_words(", ");
+        row_list(page, drawn, columns, row.as_slice());
     }
-    Ok(())
 }
 
-#[tactic(auto, using(sql_text::proofs::Steps::steps))]
-fn rows_of(
-    writer: &mut Writer,
-    drawn: bool,
-    columns: &[ColumnSpec],
-    rows: &[RowValues],
-) -> Result<(), AllocError>
-    ensures { Wrote (with_separators (codes ", ") (spec.row_list drawn columns.now) rows.now)
-        result writer.old writer.new }
+#[tactic(auto, using(sql_text::proofs::Pages::page_steps))]
+fn rows_of(page: &mut Page, drawn: bool, columns: &[ColumnSpec], rows: &[RowValues])
+    ensures { WroteOn (with_separators (codes ", ") (spec.row_list drawn columns.now) rows.now)
+        page.old page.new }
 {
     let Some((first, others)) = rows.split_first() else {
-        return Ok(());
+        return;
     };
-    row_list(writer, drawn, columns, first.as_slice())?;
-    more_rows(writer, drawn, columns, others)
+    row_list(page, drawn, columns, first.as_slice());
+    more_rows(page, drawn, columns, others);
 }
 
 /// The columns and the rows.
-fn row_lists(
-    writer: &mut Writer,
-    drawn: bool,
-    columns: &[ColumnSpec],
-    rows: &[RowValues],
-) -> Result<(), AllocError>
-    ensures { Wrote (spec.lists_pieces drawn columns.now rows.now) result writer.old writer.new }
+fn row_lists(page: &mut Page, drawn: bool, columns: &[ColumnSpec], rows: &[RowValues])
+    ensures { WroteOn (spec.lists_pieces drawn columns.now rows.now) page.old page.new }
 {
-    names(writer, drawn, columns)?;
-    writer.put_words(") VALUES ")?;
-    rows_of(writer, drawn, columns, rows)
+    names(page, drawn, columns);
+    page.put_words(") VALUES ");
+    rows_of(page, drawn, columns, rows);
 }
 
 /// The columns and the rows, or rather that there are no columns.
-#[tactic(auto, using(sql_text::proofs::Steps::steps))]
-fn all_rows(
-    writer: &mut Writer,
-    drawn: bool,
-    columns: &[ColumnSpec],
-    rows: &[RowValues],
-) -> Result<(), AllocError>
-    ensures { Wrote (spec.rows_pieces writer.old.dialect drawn columns.now rows.now)
-        result writer.old writer.new }
+#[tactic(auto, using(sql_text::proofs::Pages::page_steps))]
+fn all_rows(page: &mut Page, drawn: bool, columns: &[ColumnSpec], rows: &[RowValues])
+    ensures { WroteOn (spec.rows_pieces page.old.written.dialect drawn columns.now rows.now)
+        page.old page.new }
 {
     if all_left_out(drawn, columns) {
-        writer.put_words(default_word(writer.dialect()))
+        page.put_words(default_word(page.dialect()));
     } else {
-        row_lists(writer, drawn, columns, rows)
+        row_lists(page, drawn, columns, rows);
     }
 }
 
 /// The key's columns behind RETURNING.
-#[tactic(auto, unfolding(sql_text::specs::Written::put_all), using(sql_text::proofs::Steps::steps))]
-fn key_names(writer: &mut Writer, schema: &Schema, table: TableId) -> Result<(), AllocError>
-    ensures { Wrote (spec.key_names (spec_of schema.now table).name (spec_of schema.now
-        table).columns) result writer.old writer.new }
+#[tactic(auto, unfolding(sql_text::specs::Pages::put_on, sql_text::specs::Written::put_all), using(sql_text::proofs::Pages::page_steps))]
+fn key_names(page: &mut Page, schema: &Schema, table: TableId)
+    ensures { WroteOn (spec.key_names (spec_of schema.now table).name (spec_of schema.now
+        table).columns) page.old page.new }
 {
     let name = table_name(schema, table);
     let columns = columns_of(schema, table);
@@ -211,81 +176,57 @@ fn key_names(writer: &mut Writer, schema: &Schema, table: TableId) -> Result<(),
         if !column.key {
             continue;
         }
-        writer.put_words(" RETURNING ")?;
-        writer.put_shown(name)?;
-        writer.put_words(".")?;
-        writer.put_name(&column.name)?;
+        page.put_words(" RETURNING ");
+        page.put_shown(name);
+        page.put_words(".");
+        page.put_name(&column.name);
     }
-    Ok(())
 }
 
 /// PostgreSQL tells the generated key.
-#[tactic(auto, using(sql_text::proofs::Steps::steps))]
-fn returning(
-    writer: &mut Writer,
-    schema: &Schema,
-    table: TableId,
-    drawn: bool,
-) -> Result<(), AllocError>
-    ensures { Wrote (spec.returning_pieces writer.old.dialect drawn (spec_of schema.now table))
-        result writer.old writer.new }
+#[tactic(auto, using(sql_text::proofs::Pages::page_steps))]
+fn returning(page: &mut Page, schema: &Schema, table: TableId, drawn: bool)
+    ensures { WroteOn (spec.returning_pieces page.old.written.dialect drawn (spec_of schema.now
+        table)) page.old page.new }
 {
-    match writer.dialect() {
+    match page.dialect() {
         Dialect::Postgresql => {
             if tells_key(Dialect::Postgresql, drawn) {
-                key_names(writer, schema, table)
-            } else {
-                Ok(())
+                key_names(page, schema, table);
             }
         }
-        Dialect::Sqlite | Dialect::Mysql => Ok(()),
+        Dialect::Sqlite | Dialect::Mysql => {}
     }
 }
 
-#[tactic(auto, using(sql_text::proofs::Steps::steps))]
-fn insert(
-    writer: &mut Writer,
-    schema: &Schema,
-    table: TableId,
-    rows: &[RowValues],
-) -> Result<(), AllocError>
-    ensures { Wrote (spec.insert_rows writer.old.dialect (spec_of schema.now table)
-        (spec.leaves_key (spec_of schema.now table) rows.now) rows.now)
-        result writer.old writer.new }
+#[tactic(auto, using(sql_text::proofs::Pages::page_steps))]
+fn insert(page: &mut Page, schema: &Schema, table: TableId, rows: &[RowValues])
+    ensures { WroteOn (spec.insert_rows page.old.written.dialect (spec_of schema.now table)
+        (spec.leaves_key (spec_of schema.now table) rows.now) rows.now) page.old page.new }
 {
     let drawn = leaves_key(schema, table, rows);
-    writer.put_words("INSERT INTO ")?;
-    writer.put_shown(table_name(schema, table))?;
-    all_rows(writer, drawn, columns_of(schema, table), rows)?;
-    returning(writer, schema, table, drawn)
+    page.put_words("INSERT INTO ");
+    page.put_shown(table_name(schema, table));
+    all_rows(page, drawn, columns_of(schema, table), rows);
+    returning(page, schema, table, drawn);
 }
 
 /// A column of the key and its value.
-#[tactic(auto, using(sql_text::proofs::Steps::steps))]
-fn key_cell(
-    writer: &mut Writer,
-    table: &str,
-    column: &ColumnSpec,
-    value: &Value,
-) -> Result<(), AllocError>
-    ensures { Wrote (spec.key_cell table.now column.now value.now) result writer.old writer.new }
+#[tactic(auto, using(sql_text::proofs::Pages::page_steps))]
+fn key_cell(page: &mut Page, table: &str, column: &ColumnSpec, value: &Value)
+    ensures { WroteOn (spec.key_cell table.now column.now value.now) page.old page.new }
 {
-    writer.put_shown(table)?;
-    writer.put_words(".")?;
-    writer.put_name(&column.name)?;
-    writer.put_words(" = ")?;
-    writer.put_value(&column.name, value)
+    page.put_shown(table);
+    page.put_words(".");
+    page.put_name(&column.name);
+    page.put_words(" = ");
+    page.put_value(&column.name, value);
 }
 
 /// The condition on the key.
-#[tactic(auto, unfolding(sql_text::specs::Written::put_all), using(sql_text::proofs::Steps::steps))]
-fn by_key(
-    writer: &mut Writer,
-    schema: &Schema,
-    table: TableId,
-    key: &[Value],
-) -> Result<(), AllocError>
-    ensures { Wrote (spec.by_key (spec_of schema.now table) key.now) result writer.old writer.new }
+#[tactic(auto, unfolding(sql_text::specs::Pages::put_on, sql_text::specs::Written::put_all), using(sql_text::proofs::Pages::page_steps))]
+fn by_key(page: &mut Page, schema: &Schema, table: TableId, key: &[Value])
+    ensures { WroteOn (spec.by_key (spec_of schema.now table) key.now) page.old page.new }
 {
     let name = table_name(schema, table);
     let columns = columns_of(schema, table);
@@ -293,87 +234,70 @@ fn by_key(
     let mut rest = key;
     for column in columns {
         let Some((value, more)) = rest.split_first() else {
-            return Ok(());
+            return;
         };
         if !column.key {
             continue;
         }
-        writer.put_words(word)?;
-        key_cell(writer, name, column, value)?;
+        page.put_words(word);
+        key_cell(page, name, column, value);
         word = " AND ";
         rest = more;
     }
-    Ok(())
 }
 
-#[tactic(auto, using(sql_text::proofs::Steps::steps))]
-fn cell(
-    writer: &mut Writer,
-    schema: &Schema,
-    table: TableId,
-    cell: &(ColumnNo, Value),
-) -> Result<(), AllocError>
-    ensures { Wrote (spec.cell_pieces schema.now table cell.now) result writer.old writer.new }
+#[tactic(auto, using(sql_text::proofs::Pages::page_steps))]
+fn cell(page: &mut Page, schema: &Schema, table: TableId, cell: &(ColumnNo, Value))
+    ensures { WroteOn (spec.cell_pieces schema.now table cell.now) page.old page.new }
 {
     let name = column_name(schema, table, cell.0);
-    writer.put_shown(name)?;
-    writer.put_words("=")?;
-    writer.put_mark(name, &cell.1)
+    page.put_shown(name);
+    page.put_words("=");
+    page.put_mark(name, &cell.1);
 }
 
-#[tactic(auto, unfolding(sql_text::specs::Written::put_all), using(sql_text::proofs::Steps::steps))]
-fn more_cells(
-    writer: &mut Writer,
-    schema: &Schema,
-    table: TableId,
-    cells: &[(ColumnNo, Value)],
-) -> Result<(), AllocError>
-    ensures { Wrote (with_leading_separators (codes ", ") (spec.cell_pieces schema.now table) cells.now)
-        result writer.old writer.new }
+#[tactic(auto, unfolding(sql_text::specs::Pages::put_on, sql_text::specs::Written::put_all), using(sql_text::proofs::Pages::page_steps))]
+fn more_cells(page: &mut Page, schema: &Schema, table: TableId, cells: &[(ColumnNo, Value)])
+    ensures { WroteOn (with_leading_separators (codes ", ") (spec.cell_pieces schema.now table)
+        cells.now) page.old page.new }
 {
     for next in cells {
-        writer.put_words(", ")?;
-        cell(writer, schema, table, next)?;
+        page.put_words(", ");
+        cell(page, schema, table, next);
     }
-    Ok(())
 }
 
-#[tactic(auto, using(sql_text::proofs::Steps::steps))]
-fn cells_of(
-    writer: &mut Writer,
-    schema: &Schema,
-    table: TableId,
-    cells: &[(ColumnNo, Value)],
-) -> Result<(), AllocError>
-    ensures { Wrote (with_separators (codes ", ") (spec.cell_pieces schema.now table) cells.now)
-        result writer.old writer.new }
+#[tactic(auto, using(sql_text::proofs::Pages::page_steps))]
+fn cells_of(page: &mut Page, schema: &Schema, table: TableId, cells: &[(ColumnNo, Value)])
+    ensures { WroteOn (with_separators (codes ", ") (spec.cell_pieces schema.now table) cells.now)
+        page.old page.new }
 {
     let Some((first, others)) = cells.split_first() else {
-        return Ok(());
+        return;
     };
-    cell(writer, schema, table, first)?;
-    more_cells(writer, schema, table, others)
+    cell(page, schema, table, first);
+    more_cells(page, schema, table, others);
 }
 
 /// A statement on rows.
-#[tactic(auto, unfolding(crate::specs::Rows::row_pieces), using(sql_text::proofs::Steps::steps))]
-pub fn row(writer: &mut Writer, schema: &Schema, statement: &RowStmt) -> Result<(), AllocError>
-    ensures { Wrote (spec.row_pieces writer.old.dialect schema.now statement.now)
-        result writer.old writer.new }
+#[tactic(auto, unfolding(crate::specs::Rows::row_pieces), using(sql_text::proofs::Pages::page_steps))]
+pub fn row(page: &mut Page, schema: &Schema, statement: &RowStmt)
+    ensures { WroteOn (spec.row_pieces page.old.written.dialect schema.now statement.now)
+        page.old page.new }
 {
     match statement {
-        RowStmt::Insert { table, rows } => insert(writer, schema, *table, rows.as_slice()),
+        RowStmt::Insert { table, rows } => insert(page, schema, *table, rows.as_slice()),
         RowStmt::Update { table, key, cells } => {
-            writer.put_words("UPDATE ")?;
-            writer.put_shown(table_name(schema, *table))?;
-            writer.put_words(" SET ")?;
-            cells_of(writer, schema, *table, cells.as_slice())?;
-            by_key(writer, schema, *table, key.as_slice())
+            page.put_words("UPDATE ");
+            page.put_shown(table_name(schema, *table));
+            page.put_words(" SET ");
+            cells_of(page, schema, *table, cells.as_slice());
+            by_key(page, schema, *table, key.as_slice());
         }
         RowStmt::Delete { table, key } => {
-            writer.put_words("DELETE FROM ")?;
-            writer.put_shown(table_name(schema, *table))?;
-            by_key(writer, schema, *table, key.as_slice())
+            page.put_words("DELETE FROM ");
+            page.put_shown(table_name(schema, *table));
+            by_key(page, schema, *table, key.as_slice());
         }
     }
 }

@@ -5,69 +5,54 @@ ghost use Rattle.sql_semantics.specs.Plain.{sources_of};
 ghost use Rattle.sql_rows.specs.Cuts.{IsCut};
 ghost use Rattle.sql_statements.specs.Selects as spec;
 ghost use Rattle.sql_text.specs.Words.{select_word, join_word};
-ghost use Rattle.sql_text.specs.Written.{Wrote, with_leading_separators, with_separators};
+ghost use Rattle.sql_text.specs.Pages.{WroteOn};
+ghost use Rattle.sql_text.specs.Written.{with_leading_separators, with_separators};
 
 use base_core::{Copied, Name};
 use expr_types::{Expr, Joined, Origin, Select};
 use schema_core::Schema;
 use sql_expressions::{expression, param, parts, source};
 use sql_rows::{cut, is_cut};
-use sql_text::Writer;
+use sql_text::Page;
 use std::alloc::{AllocError, Global};
 
 /// An item with its name.
-#[tactic(auto, using(sql_text::proofs::Steps::steps))]
-fn item(
-    writer: &mut Writer,
-    schema: &Schema,
-    scope: &[Origin],
-    item: &(Expr, Option<Name>),
-) -> Result<(), AllocError>
-    ensures { Wrote (spec.item_pieces writer.old.dialect schema.now scope.now item.now)
-        result writer.old writer.new }
+#[tactic(auto, using(sql_text::proofs::Pages::page_steps))]
+fn item(page: &mut Page, schema: &Schema, scope: &[Origin], item: &(Expr, Option<Name>))
+    ensures { WroteOn (spec.item_pieces page.old.written.dialect schema.now scope.now item.now)
+        page.old page.new }
 {
-    expression(writer, schema, scope, param(), &item.0)?;
+    expression(page, schema, scope, param(), &item.0);
     match &item.1 {
         Some(name) => {
-            writer.put_words(" AS ")?;
-            writer.put_name(name)
+            page.put_words(" AS ");
+            page.put_name(name);
         }
-        None => Ok(()),
+        None => {}
     }
 }
 
-#[tactic(auto, unfolding(sql_text::specs::Written::put_all), using(sql_text::proofs::Steps::steps))]
-fn more_items(
-    writer: &mut Writer,
-    schema: &Schema,
-    scope: &[Origin],
-    items: &[(Expr, Option<Name>)],
-) -> Result<(), AllocError>
-    ensures { Wrote (with_leading_separators (codes ", ") (spec.item_pieces writer.old.dialect schema.now
-        scope.now) items.now) result writer.old writer.new }
+#[tactic(auto, unfolding(sql_text::specs::Pages::put_on, sql_text::specs::Written::put_all), using(sql_text::proofs::Pages::page_steps))]
+fn more_items(page: &mut Page, schema: &Schema, scope: &[Origin], items: &[(Expr, Option<Name>)])
+    ensures { WroteOn (with_leading_separators (codes ", ") (spec.item_pieces
+        page.old.written.dialect schema.now scope.now) items.now) page.old page.new }
 {
     for next in items {
-        writer.put_words(", ")?;
-        item(writer, schema, scope, next)?;
+        page.put_words(", ");
+        item(page, schema, scope, next);
     }
-    Ok(())
 }
 
-#[tactic(auto, using(sql_text::proofs::Steps::steps))]
-fn items_of(
-    writer: &mut Writer,
-    schema: &Schema,
-    scope: &[Origin],
-    items: &[(Expr, Option<Name>)],
-) -> Result<(), AllocError>
-    ensures { Wrote (with_separators (codes ", ") (spec.item_pieces writer.old.dialect schema.now scope.now)
-        items.now) result writer.old writer.new }
+#[tactic(auto, using(sql_text::proofs::Pages::page_steps))]
+fn items_of(page: &mut Page, schema: &Schema, scope: &[Origin], items: &[(Expr, Option<Name>)])
+    ensures { WroteOn (with_separators (codes ", ") (spec.item_pieces page.old.written.dialect
+        schema.now scope.now) items.now) page.old page.new }
 {
     let Some((first, others)) = items.split_first() else {
-        return Ok(());
+        return;
     };
-    item(writer, schema, scope, first)?;
-    more_items(writer, schema, scope, others)
+    item(page, schema, scope, first);
+    more_items(page, schema, scope, others);
 }
 
 fn select_word(distinct: bool) -> &'static str
@@ -81,18 +66,13 @@ fn select_word(distinct: bool) -> &'static str
 }
 
 /// What stands before FROM.
-fn head(
-    writer: &mut Writer,
-    schema: &Schema,
-    scope: &[Origin],
-    select: &Select,
-) -> Result<(), AllocError>
+fn head(page: &mut Page, schema: &Schema, scope: &[Origin], select: &Select)
     requires { scope.now ≡ sources_of select.now }
-    ensures { Wrote (spec.head_pieces writer.old.dialect schema.now select.now)
-        result writer.old writer.new }
+    ensures { WroteOn (spec.head_pieces page.old.written.dialect schema.now select.now)
+        page.old page.new }
 {
-    writer.put_words(select_word(select.distinct))?;
-    items_of(writer, schema, scope, select.items.as_slice())
+    page.put_words(select_word(select.distinct));
+    items_of(page, schema, scope, select.items.as_slice());
 }
 
 fn join_word(left: bool) -> &'static str
@@ -102,19 +82,14 @@ fn join_word(left: bool) -> &'static str
 }
 
 /// One further source with its condition.
-fn join(
-    writer: &mut Writer,
-    schema: &Schema,
-    scope: &[Origin],
-    join: &Joined,
-) -> Result<(), AllocError>
-    ensures { Wrote (spec.join_pieces writer.old.dialect schema.now scope.now join.now)
-        result writer.old writer.new }
+fn join(page: &mut Page, schema: &Schema, scope: &[Origin], join: &Joined)
+    ensures { WroteOn (spec.join_pieces page.old.written.dialect schema.now scope.now join.now)
+        page.old page.new }
 {
-    writer.put_words(join_word(join.left))?;
-    source(writer, schema, &join.origin)?;
-    writer.put_words(" ON ")?;
-    expression(writer, schema, scope, param(), &join.on)
+    page.put_words(join_word(join.left));
+    source(page, schema, &join.origin);
+    page.put_words(" ON ");
+    expression(page, schema, scope, param(), &join.on);
 }
 
 /// The first source alone.
@@ -146,163 +121,126 @@ fn sources_of(alloc: Global, select: &Select) -> Result<Vec<Origin>, AllocError>
 }
 
 /// Each further source with its condition under the sources up to it.
-#[tactic(auto, unfolding(sql_text::specs::Written::put_all), using(sql_text::proofs::Steps::steps))]
-fn joins(
-    writer: &mut Writer,
-    schema: &Schema,
-    first: &Origin,
-    joins: &[Joined],
-) -> Result<(), AllocError>
-    ensures { Wrote (spec.joins_pieces writer.old.dialect schema.now (first.now ∷ []) joins.now)
-        result writer.old writer.new }
+#[tactic(auto, unfolding(sql_text::specs::Pages::put_on, sql_text::specs::Written::put_all), using(sql_text::proofs::Pages::page_steps))]
+fn joins(page: &mut Page, schema: &Schema, first: &Origin, joins: &[Joined])
+    ensures { WroteOn (spec.joins_pieces page.old.written.dialect schema.now (first.now ∷ [])
+        joins.now) page.old page.new }
 {
-    let mut scope = begun(writer.alloc(), first)?;
+    let Ok(mut scope) = begun(page.alloc(), first) else {
+        page.give_up();
+        return;
+    };
     for next in joins {
-        extend(&mut scope, &next.origin)?;
-        join(writer, schema, scope.as_slice(), next)?;
+        let Ok(()) = extend(&mut scope, &next.origin) else {
+            page.give_up();
+            return;
+        };
+        join(page, schema, scope.as_slice(), next);
     }
-    Ok(())
 }
 
 /// The sources.
-#[tactic(auto, using(sql_text::proofs::Steps::steps))]
-fn from(writer: &mut Writer, schema: &Schema, select: &Select) -> Result<(), AllocError>
-    ensures { Wrote (spec.from_pieces writer.old.dialect schema.now select.now)
-        result writer.old writer.new }
+#[tactic(auto, using(sql_text::proofs::Pages::page_steps))]
+fn from(page: &mut Page, schema: &Schema, select: &Select)
+    ensures { WroteOn (spec.from_pieces page.old.written.dialect schema.now select.now)
+        page.old page.new }
 {
-    writer.put_words(" FROM ")?;
-    source(writer, schema, &select.first)?;
-    joins(writer, schema, &select.first, select.joins.as_slice())
+    page.put_words(" FROM ");
+    source(page, schema, &select.first);
+    joins(page, schema, &select.first, select.joins.as_slice());
 }
 
 /// A word with the condition behind it, where there is one.
-#[tactic(auto, using(sql_text::proofs::Steps::steps))]
+#[tactic(auto, using(sql_text::proofs::Pages::page_steps))]
 pub(crate) fn clause(
-    writer: &mut Writer,
+    page: &mut Page,
     schema: &Schema,
     scope: &[Origin],
     word: &str,
     condition: &Option<Expr>,
-) -> Result<(), AllocError>
-    ensures { Wrote (spec.clause_pieces writer.old.dialect schema.now scope.now word.now
-        condition.now) result writer.old writer.new }
+)
+    ensures { WroteOn (spec.clause_pieces page.old.written.dialect schema.now scope.now word.now
+        condition.now) page.old page.new }
 {
     match condition {
         Some(e) => {
-            writer.put_words(word)?;
-            expression(writer, schema, scope, param(), e)
+            page.put_words(word);
+            expression(page, schema, scope, param(), e);
         }
-        None => Ok(()),
+        None => {}
     }
 }
 
-fn group_by(
-    writer: &mut Writer,
-    schema: &Schema,
-    scope: &[Origin],
-    groups: &[Expr],
-) -> Result<(), AllocError>
-    ensures { Wrote (spec.group_by_pieces writer.old.dialect schema.now scope.now groups.now)
-        result writer.old writer.new }
+fn group_by(page: &mut Page, schema: &Schema, scope: &[Origin], groups: &[Expr])
+    ensures { WroteOn (spec.group_by_pieces page.old.written.dialect schema.now scope.now
+        groups.now) page.old page.new }
 {
-    writer.put_words(" GROUP BY ")?;
-    parts(writer, schema, scope, 1, ", ", groups)
+    page.put_words(" GROUP BY ");
+    parts(page, schema, scope, 1, ", ", groups);
 }
 
-#[tactic(auto, using(sql_text::proofs::Steps::steps))]
-fn groups(
-    writer: &mut Writer,
-    schema: &Schema,
-    scope: &[Origin],
-    groups: &[Expr],
-) -> Result<(), AllocError>
-    ensures { Wrote (spec.groups_pieces writer.old.dialect schema.now scope.now groups.now)
-        result writer.old writer.new }
+#[tactic(auto, using(sql_text::proofs::Pages::page_steps))]
+fn groups(page: &mut Page, schema: &Schema, scope: &[Origin], groups: &[Expr])
+    ensures { WroteOn (spec.groups_pieces page.old.written.dialect schema.now scope.now groups.now)
+        page.old page.new }
 {
     match groups {
-        [] => Ok(()),
-        [_, ..] => group_by(writer, schema, scope, groups),
+        [] => {}
+        [_, ..] => group_by(page, schema, scope, groups),
     }
 }
 
 /// An expression by which rows are ordered.
-#[tactic(auto, using(sql_text::proofs::Steps::steps))]
-fn key(
-    writer: &mut Writer,
-    schema: &Schema,
-    scope: &[Origin],
-    key: &(Expr, bool),
-) -> Result<(), AllocError>
-    ensures { Wrote (spec.key_pieces writer.old.dialect schema.now scope.now key.now)
-        result writer.old writer.new }
+#[tactic(auto, using(sql_text::proofs::Pages::page_steps))]
+fn key(page: &mut Page, schema: &Schema, scope: &[Origin], key: &(Expr, bool))
+    ensures { WroteOn (spec.key_pieces page.old.written.dialect schema.now scope.now key.now)
+        page.old page.new }
 {
-    expression(writer, schema, scope, param(), &key.0)?;
+    expression(page, schema, scope, param(), &key.0);
     if key.1 {
-        writer.put_words(" DESC")?;
+        page.put_words(" DESC");
     }
-    Ok(())
 }
 
-#[tactic(auto, unfolding(sql_text::specs::Written::put_all), using(sql_text::proofs::Steps::steps))]
-fn more_keys(
-    writer: &mut Writer,
-    schema: &Schema,
-    scope: &[Origin],
-    keys: &[(Expr, bool)],
-) -> Result<(), AllocError>
-    ensures { Wrote (with_leading_separators (codes ", ") (spec.key_pieces writer.old.dialect schema.now
-        scope.now) keys.now) result writer.old writer.new }
+#[tactic(auto, unfolding(sql_text::specs::Pages::put_on, sql_text::specs::Written::put_all), using(sql_text::proofs::Pages::page_steps))]
+fn more_keys(page: &mut Page, schema: &Schema, scope: &[Origin], keys: &[(Expr, bool)])
+    ensures { WroteOn (with_leading_separators (codes ", ") (spec.key_pieces
+        page.old.written.dialect schema.now scope.now) keys.now) page.old page.new }
 {
     for next in keys {
-        writer.put_words(", ")?;
-        key(writer, schema, scope, next)?;
+        page.put_words(", ");
+        key(page, schema, scope, next);
     }
-    Ok(())
 }
 
-#[tactic(auto, using(sql_text::proofs::Steps::steps))]
-fn keys_of(
-    writer: &mut Writer,
-    schema: &Schema,
-    scope: &[Origin],
-    keys: &[(Expr, bool)],
-) -> Result<(), AllocError>
-    ensures { Wrote (with_separators (codes ", ") (spec.key_pieces writer.old.dialect schema.now scope.now)
-        keys.now) result writer.old writer.new }
+#[tactic(auto, using(sql_text::proofs::Pages::page_steps))]
+fn keys_of(page: &mut Page, schema: &Schema, scope: &[Origin], keys: &[(Expr, bool)])
+    ensures { WroteOn (with_separators (codes ", ") (spec.key_pieces page.old.written.dialect
+        schema.now scope.now) keys.now) page.old page.new }
 {
     let Some((first, others)) = keys.split_first() else {
-        return Ok(());
+        return;
     };
-    key(writer, schema, scope, first)?;
-    more_keys(writer, schema, scope, others)
+    key(page, schema, scope, first);
+    more_keys(page, schema, scope, others);
 }
 
-fn order_by(
-    writer: &mut Writer,
-    schema: &Schema,
-    scope: &[Origin],
-    keys: &[(Expr, bool)],
-) -> Result<(), AllocError>
-    ensures { Wrote (spec.order_by_pieces writer.old.dialect schema.now scope.now keys.now)
-        result writer.old writer.new }
+fn order_by(page: &mut Page, schema: &Schema, scope: &[Origin], keys: &[(Expr, bool)])
+    ensures { WroteOn (spec.order_by_pieces page.old.written.dialect schema.now scope.now keys.now)
+        page.old page.new }
 {
-    writer.put_words(" ORDER BY ")?;
-    keys_of(writer, schema, scope, keys)
+    page.put_words(" ORDER BY ");
+    keys_of(page, schema, scope, keys);
 }
 
-#[tactic(auto, using(sql_text::proofs::Steps::steps))]
-fn order(
-    writer: &mut Writer,
-    schema: &Schema,
-    scope: &[Origin],
-    keys: &[(Expr, bool)],
-) -> Result<(), AllocError>
-    ensures { Wrote (spec.order_pieces writer.old.dialect schema.now scope.now keys.now)
-        result writer.old writer.new }
+#[tactic(auto, using(sql_text::proofs::Pages::page_steps))]
+fn order(page: &mut Page, schema: &Schema, scope: &[Origin], keys: &[(Expr, bool)])
+    ensures { WroteOn (spec.order_pieces page.old.written.dialect schema.now scope.now keys.now)
+        page.old page.new }
 {
     match keys {
-        [] => Ok(()),
-        [_, ..] => order_by(writer, schema, scope, keys),
+        [] => {}
+        [_, ..] => order_by(page, schema, scope, keys),
     }
 }
 
@@ -314,39 +252,33 @@ pub(crate) fn has_cuts(select: &Select) -> bool
 }
 
 /// The clauses behind the sources.
-#[tactic(auto, using(sql_text::proofs::Steps::steps))]
-fn tail(
-    writer: &mut Writer,
-    schema: &Schema,
-    scope: &[Origin],
-    select: &Select,
-) -> Result<(), AllocError>
+#[tactic(auto, using(sql_text::proofs::Pages::page_steps))]
+fn tail(page: &mut Page, schema: &Schema, scope: &[Origin], select: &Select)
     requires limit { IsCut select.now.limit }
     requires offset { IsCut select.now.offset }
-    ensures { Wrote (spec.tail_pieces writer.old.dialect schema.now scope.now select.now)
-        result writer.old writer.new }
+    ensures { WroteOn (spec.tail_pieces page.old.written.dialect schema.now scope.now select.now)
+        page.old page.new }
 {
-    clause(writer, schema, scope, " WHERE ", &select.filter)?;
-    groups(writer, schema, scope, select.groups.as_slice())?;
-    clause(writer, schema, scope, " HAVING ", &select.having)?;
-    order(writer, schema, scope, select.order.as_slice())?;
-    cut(writer, select.limit, select.offset)
+    clause(page, schema, scope, " WHERE ", &select.filter);
+    groups(page, schema, scope, select.groups.as_slice());
+    clause(page, schema, scope, " HAVING ", &select.having);
+    order(page, schema, scope, select.order.as_slice());
+    cut(page, select.limit, select.offset);
 }
 
 /// A select.
-#[tactic(auto, unfolding(crate::specs::Selects::select_pieces), using(sql_text::proofs::Steps::steps))]
-pub(crate) fn select(
-    writer: &mut Writer,
-    schema: &Schema,
-    select: &Select,
-) -> Result<(), AllocError>
+#[tactic(auto, unfolding(crate::specs::Selects::select_pieces), using(sql_text::proofs::Pages::page_steps))]
+pub(crate) fn select(page: &mut Page, schema: &Schema, select: &Select)
     requires limit { IsCut select.now.limit }
     requires offset { IsCut select.now.offset }
-    ensures { Wrote (spec.select_pieces writer.old.dialect schema.now select.now)
-        result writer.old writer.new }
+    ensures { WroteOn (spec.select_pieces page.old.written.dialect schema.now select.now)
+        page.old page.new }
 {
-    let scope = sources_of(writer.alloc(), select)?;
-    head(writer, schema, scope.as_slice(), select)?;
-    from(writer, schema, select)?;
-    tail(writer, schema, scope.as_slice(), select)
+    let Ok(scope) = sources_of(page.alloc(), select) else {
+        page.give_up();
+        return;
+    };
+    head(page, schema, scope.as_slice(), select);
+    from(page, schema, select);
+    tail(page, schema, scope.as_slice(), select);
 }

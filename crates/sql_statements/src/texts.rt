@@ -2,7 +2,7 @@
 
 ghost use Rattle.std.specs.Prelude.{◌≡◌, Ok, IsTrue, ◌↔◌, IfOk};
 ghost use Rattle.sql_statements.specs.Texts as spec;
-ghost use Rattle.sql_text.specs.Written.{Wrote};
+ghost use Rattle.sql_text.specs.Pages.{WroteOn};
 
 use crate::bulks::bulk;
 use crate::selects::{self, select};
@@ -10,19 +10,19 @@ use base_core::Dialect;
 use expr_types::Statement;
 use schema_core::Schema;
 use sql_rows::row;
-use sql_text::{Compiled, Writer};
+use sql_text::{Compiled, Page};
 use std::alloc::{AllocError, Global};
 
-#[tactic(auto, using(sql_text::proofs::Steps::steps))]
-fn write(writer: &mut Writer, schema: &Schema, statement: &Statement) -> Result<(), AllocError>
+#[tactic(auto, using(sql_text::proofs::Pages::page_steps))]
+fn write(page: &mut Page, schema: &Schema, statement: &Statement)
     requires { spec.HasCuts statement.now }
-    ensures { Wrote (spec.statement_pieces writer.old.dialect schema.now statement.now)
-        result writer.old writer.new }
+    ensures { WroteOn (spec.statement_pieces page.old.written.dialect schema.now statement.now)
+        page.old page.new }
 {
     match statement {
-        Statement::Select(it) => select(writer, schema, it),
-        Statement::Bulk(it) => bulk(writer, schema, it),
-        Statement::Row(it) => row(writer, schema, it),
+        Statement::Select(it) => select(page, schema, it),
+        Statement::Bulk(it) => bulk(page, schema, it),
+        Statement::Row(it) => row(page, schema, it),
     }
 }
 
@@ -37,7 +37,7 @@ pub fn has_cuts(statement: &Statement) -> bool
 }
 
 /// A statement's text in a dialect, with the names of its marks and their values.
-#[tactic(auto, unfolding(crate::specs::Texts::text_of))]
+#[tactic(auto, unfolding(crate::specs::Texts::text_of), using(sql_text::proofs::Pages::written_on))]
 pub fn compiled(
     alloc: Global,
     dialect: Dialect,
@@ -47,7 +47,7 @@ pub fn compiled(
     requires { spec.HasCuts statement.now }
     ensures { IfOk result (λ it. it ≡ spec.text_of dialect schema.now statement.now) }
 {
-    let mut writer = Writer::new(alloc, dialect);
-    write(&mut writer, schema, statement)?;
-    Ok(writer.finish())
+    let mut page = Page::new(alloc, dialect);
+    write(&mut page, schema, statement);
+    Ok(page.written()?.finish())
 }

@@ -4,13 +4,14 @@ ghost use Rattle.std.specs.Prelude.{◌≡◌, ◌<◌, ◌∷◌, [], Ok, IfOk,
 ghost use Rattle.base_core.specs.Answers.{Gives};
 ghost use Rattle.schema_core.specs.Catalog.{IsTable, spec_of};
 ghost use Rattle.sql_tables.specs.Ddl as spec;
-ghost use Rattle.sql_text.specs.Written.{Wrote, with_leading_separators, with_separators, words, name};
+ghost use Rattle.sql_text.specs.Pages.{WroteOn};
+ghost use Rattle.sql_text.specs.Written.{with_leading_separators, with_separators, words, name};
 
 use base_core::{ColumnNo, Dialect, ListOf, Name, Refusal, TableId, Text};
 use schema_core::{
     ColumnKind, ColumnSpec, ForeignSpec, Schema, TableSpec, has_generated_key, is_required,
 };
-use sql_text::{Writer, columns_of, comes_later, table_name};
+use sql_text::{Page, Writer, columns_of, comes_later, table_name};
 use std::alloc::{AllocError, Global};
 
 fn varchar_word(alloc: Global, most: Option<u32>) -> Result<String, AllocError>
@@ -50,229 +51,197 @@ fn generated_word(dialect: Dialect) -> &'static str
     }
 }
 
-fn type_of(writer: &mut Writer, kind: ColumnKind) -> Result<(), AllocError>
-    ensures { Wrote (words (spec.type_word writer.old.dialect kind) ∷ [])
-        result writer.old writer.new }
+fn type_of(page: &mut Page, kind: ColumnKind)
+    ensures { WroteOn (words (spec.type_word page.old.written.dialect kind) ∷ [])
+        page.old page.new }
 {
     match kind {
-        ColumnKind::Integer => writer.put_words("INTEGER"),
-        ColumnKind::Varchar(most) => {
-            let word = varchar_word(writer.alloc(), most)?;
-            writer.put_words(word.as_str())
-        }
-        ColumnKind::Text => writer.put_words("TEXT"),
-        ColumnKind::Boolean => writer.put_words(boolean_word(writer.dialect())),
-        ColumnKind::Bytes => writer.put_words(bytes_word(writer.dialect())),
+        ColumnKind::Integer => page.put_words("INTEGER"),
+        ColumnKind::Varchar(most) => match varchar_word(page.alloc(), most) {
+            Ok(word) => page.put_words(word.as_str()),
+            Err(_) => page.give_up(),
+        },
+        ColumnKind::Text => page.put_words("TEXT"),
+        ColumnKind::Boolean => page.put_words(boolean_word(page.dialect())),
+        ColumnKind::Bytes => page.put_words(bytes_word(page.dialect())),
     }
 }
 
-#[tactic(auto, using(sql_text::proofs::Steps::steps))]
-fn column(writer: &mut Writer, generated: bool, column: &ColumnSpec) -> Result<(), AllocError>
-    ensures { Wrote (spec.column_pieces writer.old.dialect generated column.now)
-        result writer.old writer.new }
+#[tactic(auto, using(sql_text::proofs::Pages::page_steps))]
+fn column(page: &mut Page, generated: bool, column: &ColumnSpec)
+    ensures { WroteOn (spec.column_pieces page.old.written.dialect generated column.now)
+        page.old page.new }
 {
-    writer.put_name(&column.name)?;
-    writer.put_words(" ")?;
+    page.put_name(&column.name);
+    page.put_words(" ");
     if generated && column.key {
-        return writer.put_words(generated_word(writer.dialect()));
+        page.put_words(generated_word(page.dialect()));
+        return;
     }
-    type_of(writer, column.kind)?;
+    type_of(page, column.kind);
     if is_required(column) {
-        writer.put_words(" NOT NULL")?;
+        page.put_words(" NOT NULL");
     }
-    Ok(())
 }
 
-#[tactic(auto, unfolding(sql_text::specs::Written::put_all), using(sql_text::proofs::Steps::steps))]
-fn more_columns(
-    writer: &mut Writer,
-    generated: bool,
-    columns: &[ColumnSpec],
-) -> Result<(), AllocError>
-    ensures { Wrote (with_leading_separators (codes ", ") (spec.column_pieces writer.old.dialect generated) columns.now)
-        result writer.old writer.new }
+#[tactic(auto, unfolding(sql_text::specs::Pages::put_on, sql_text::specs::Written::put_all), using(sql_text::proofs::Pages::page_steps))]
+fn more_columns(page: &mut Page, generated: bool, columns: &[ColumnSpec])
+    ensures { WroteOn (with_leading_separators (codes ", ") (spec.column_pieces
+        page.old.written.dialect generated) columns.now) page.old page.new }
 {
     for next in columns {
-        writer.put_words(", ")?;
-        column(writer, generated, next)?;
+        page.put_words(", ");
+        column(page, generated, next);
     }
-    Ok(())
 }
 
-#[tactic(auto, using(sql_text::proofs::Steps::steps))]
-fn columns(writer: &mut Writer, generated: bool, columns: &[ColumnSpec]) -> Result<(), AllocError>
-    ensures { Wrote (with_separators (codes ", ")
-        (spec.column_pieces writer.old.dialect generated) columns.now)
-        result writer.old writer.new }
+#[tactic(auto, using(sql_text::proofs::Pages::page_steps))]
+fn columns(page: &mut Page, generated: bool, columns: &[ColumnSpec])
+    ensures { WroteOn (with_separators (codes ", ")
+        (spec.column_pieces page.old.written.dialect generated) columns.now) page.old page.new }
 {
     let Some((first, others)) = columns.split_first() else {
-        return Ok(());
+        return;
     };
-    column(writer, generated, first)?;
-    more_columns(writer, generated, others)
+    column(page, generated, first);
+    more_columns(page, generated, others);
 }
 
-#[tactic(auto, unfolding(sql_text::specs::Written::put_all), using(sql_text::proofs::Steps::steps))]
-fn more_names(writer: &mut Writer, names: &[Name]) -> Result<(), AllocError>
-    ensures { Wrote (with_leading_separators (codes ", ") (λ shown. name shown ∷ []) names.now)
-        result writer.old writer.new }
+#[tactic(auto, unfolding(sql_text::specs::Pages::put_on, sql_text::specs::Written::put_all), using(sql_text::proofs::Pages::page_steps))]
+fn more_names(page: &mut Page, names: &[Name])
+    ensures { WroteOn (with_leading_separators (codes ", ") (λ shown. name shown ∷ []) names.now)
+        page.old page.new }
 {
     for name in names {
-        writer.put_words(", ")?;
-        writer.put_name(name)?;
+        page.put_words(", ");
+        page.put_name(name);
     }
-    Ok(())
 }
 
-#[tactic(auto, using(sql_text::proofs::Steps::steps))]
-fn names(writer: &mut Writer, names: &[Name]) -> Result<(), AllocError>
-    ensures { Wrote (spec.names_pieces names.now) result writer.old writer.new }
+#[tactic(auto, using(sql_text::proofs::Pages::page_steps))]
+fn names(page: &mut Page, names: &[Name])
+    ensures { WroteOn (spec.names_pieces names.now) page.old page.new }
 {
     let Some((first, others)) = names.split_first() else {
-        return Ok(());
+        return;
     };
-    writer.put_name(first)?;
-    more_names(writer, others)
+    page.put_name(first);
+    more_names(page, others);
 }
 
 /// The names of the key's columns.
-#[tactic(auto, unfolding(sql_text::specs::Written::put_all), using(sql_text::proofs::Steps::steps))]
-fn key_names(writer: &mut Writer, opening: &str, columns: &[ColumnSpec]) -> Result<(), AllocError>
-    ensures { Wrote (spec.key_names opening.now columns.now) result writer.old writer.new }
+#[tactic(auto, unfolding(sql_text::specs::Pages::put_on, sql_text::specs::Written::put_all), using(sql_text::proofs::Pages::page_steps))]
+fn key_names(page: &mut Page, opening: &str, columns: &[ColumnSpec])
+    ensures { WroteOn (spec.key_names opening.now columns.now) page.old page.new }
 {
     let mut word = opening;
     for column in columns {
         if !column.key {
             continue;
         }
-        writer.put_words(word)?;
-        writer.put_name(&column.name)?;
+        page.put_words(word);
+        page.put_name(&column.name);
         word = ", ";
     }
-    Ok(())
 }
 
-#[tactic(auto, using(sql_text::proofs::Steps::steps))]
-fn unique(writer: &mut Writer, columns: &[Name]) -> Result<(), AllocError>
-    ensures { Wrote (spec.unique_pieces columns.now) result writer.old writer.new }
+#[tactic(auto, using(sql_text::proofs::Pages::page_steps))]
+fn unique(page: &mut Page, columns: &[Name])
+    ensures { WroteOn (spec.unique_pieces columns.now) page.old page.new }
 {
-    writer.put_words(", UNIQUE (")?;
-    names(writer, columns)?;
-    writer.put_words(")")
+    page.put_words(", UNIQUE (");
+    names(page, columns);
+    page.put_words(")");
 }
 
-#[tactic(auto, unfolding(sql_text::specs::Written::put_all), using(sql_text::proofs::Steps::steps))]
-fn uniques(writer: &mut Writer, uniques: &[ListOf<Name>]) -> Result<(), AllocError>
-    ensures { Wrote (spec.uniques_pieces uniques.now) result writer.old writer.new }
+#[tactic(auto, unfolding(sql_text::specs::Pages::put_on, sql_text::specs::Written::put_all), using(sql_text::proofs::Pages::page_steps))]
+fn uniques(page: &mut Page, uniques: &[ListOf<Name>])
+    ensures { WroteOn (spec.uniques_pieces uniques.now) page.old page.new }
 {
     for columns in uniques {
-        unique(writer, columns.as_slice())?;
+        unique(page, columns.as_slice());
     }
-    Ok(())
 }
 
 /// The table that a foreign key refers to, and the columns of its key.
-#[tactic(auto, using(sql_text::proofs::Steps::steps))]
-fn target(writer: &mut Writer, schema: &Schema, target: Option<TableId>) -> Result<(), AllocError>
-    ensures { Wrote (spec.target_pieces schema.now target) result writer.old writer.new }
+#[tactic(auto, using(sql_text::proofs::Pages::page_steps))]
+fn target(page: &mut Page, schema: &Schema, target: Option<TableId>)
+    ensures { WroteOn (spec.target_pieces schema.now target) page.old page.new }
 {
     match target {
         Some(table) => {
-            writer.put_shown(table_name(schema, table))?;
-            key_names(writer, " (", columns_of(schema, table))
+            page.put_shown(table_name(schema, table));
+            key_names(page, " (", columns_of(schema, table));
         }
         None => {
-            writer.put_shown("")?;
-            writer.put_words(" (")
+            page.put_shown("");
+            page.put_words(" (");
         }
     }
 }
 
-#[tactic(auto, using(sql_text::proofs::Steps::steps))]
-fn reference(writer: &mut Writer, schema: &Schema, it: Option<TableId>) -> Result<(), AllocError>
-    ensures { Wrote (spec.reference_pieces schema.now it) result writer.old writer.new }
+#[tactic(auto, using(sql_text::proofs::Pages::page_steps))]
+fn reference(page: &mut Page, schema: &Schema, it: Option<TableId>)
+    ensures { WroteOn (spec.reference_pieces schema.now it) page.old page.new }
 {
-    writer.put_words(") REFERENCES ")?;
-    target(writer, schema, it)?;
-    writer.put_words(")")
+    page.put_words(") REFERENCES ");
+    target(page, schema, it);
+    page.put_words(")");
 }
 
-#[tactic(auto, using(sql_text::proofs::Steps::steps))]
-fn foreign_to(
-    writer: &mut Writer,
-    schema: &Schema,
-    columns: &[Name],
-    target: Option<TableId>,
-) -> Result<(), AllocError>
-    ensures { Wrote (spec.foreign_to schema.now columns.now target) result writer.old writer.new }
+#[tactic(auto, using(sql_text::proofs::Pages::page_steps))]
+fn foreign_to(page: &mut Page, schema: &Schema, columns: &[Name], target: Option<TableId>)
+    ensures { WroteOn (spec.foreign_to schema.now columns.now target) page.old page.new }
 {
-    writer.put_words("FOREIGN KEY(")?;
-    names(writer, columns)?;
-    reference(writer, schema, target)
+    page.put_words("FOREIGN KEY(");
+    names(page, columns);
+    reference(page, schema, target);
 }
 
-fn foreign(writer: &mut Writer, schema: &Schema, foreign: &ForeignSpec) -> Result<(), AllocError>
-    ensures { Wrote (spec.foreign_pieces schema.now foreign.now) result writer.old writer.new }
+fn foreign(page: &mut Page, schema: &Schema, foreign: &ForeignSpec)
+    ensures { WroteOn (spec.foreign_pieces schema.now foreign.now) page.old page.new }
 {
     let target = schema.find(&foreign.target);
-    foreign_to(writer, schema, foreign.columns.as_slice(), target)
+    foreign_to(page, schema, foreign.columns.as_slice(), target);
 }
 
 /// The foreign keys but for those that come later.
-#[tactic(auto, unfolding(sql_text::specs::Written::put_all), using(sql_text::proofs::Steps::steps))]
-fn foreigns(
-    writer: &mut Writer,
-    schema: &Schema,
-    later: &[u32],
-    foreigns: &[ForeignSpec],
-) -> Result<(), AllocError>
-    ensures { Wrote (spec.foreigns_pieces schema.now later.now 0 foreigns.now)
-        result writer.old writer.new }
+#[tactic(auto, unfolding(sql_text::specs::Pages::put_on, sql_text::specs::Written::put_all), using(sql_text::proofs::Pages::page_steps))]
+fn foreigns(page: &mut Page, schema: &Schema, later: &[u32], foreigns: &[ForeignSpec])
+    ensures { WroteOn (spec.foreigns_pieces schema.now later.now 0 foreigns.now) page.old page.new }
 {
     for (number, next) in foreigns.iter().enumerate() {
         if comes_later(later, number) {
             continue;
         }
-        writer.put_words(", ")?;
-        foreign(writer, schema, next)?;
+        page.put_words(", ");
+        foreign(page, schema, next);
     }
-    Ok(())
 }
 
 /// The key, the uniques, and the foreign keys but for those that come later.
-#[tactic(auto, using(sql_text::proofs::Steps::steps))]
-fn constraints(
-    writer: &mut Writer,
-    schema: &Schema,
-    declared: &TableSpec,
-    later: &[u32],
-) -> Result<(), AllocError>
-    ensures { Wrote (spec.constraint_pieces schema.now declared.now later.now)
-        result writer.old writer.new }
+#[tactic(auto, using(sql_text::proofs::Pages::page_steps))]
+fn constraints(page: &mut Page, schema: &Schema, declared: &TableSpec, later: &[u32])
+    ensures { WroteOn (spec.constraint_pieces schema.now declared.now later.now) page.old page.new }
 {
-    key_names(writer, ", PRIMARY KEY (", declared.columns.as_slice())?;
-    writer.put_words(")")?;
-    uniques(writer, declared.uniques.as_slice())?;
-    foreigns(writer, schema, later, declared.foreigns.as_slice())
+    key_names(page, ", PRIMARY KEY (", declared.columns.as_slice());
+    page.put_words(")");
+    uniques(page, declared.uniques.as_slice());
+    foreigns(page, schema, later, declared.foreigns.as_slice());
 }
 
-#[tactic(auto, using(sql_text::proofs::Steps::steps))]
-fn create(
-    writer: &mut Writer,
-    schema: &Schema,
-    declared: &TableSpec,
-    later: &[u32],
-) -> Result<(), AllocError>
-    ensures { Wrote (spec.create_pieces writer.old.dialect schema.now declared.now later.now)
-        result writer.old writer.new }
+#[tactic(auto, using(sql_text::proofs::Pages::page_steps))]
+fn create(page: &mut Page, schema: &Schema, declared: &TableSpec, later: &[u32])
+    ensures { WroteOn (spec.create_pieces page.old.written.dialect schema.now declared.now
+        later.now) page.old page.new }
 {
     let generated = has_generated_key(declared);
-    writer.put_words("CREATE TABLE ")?;
-    writer.put_name(&declared.name)?;
-    writer.put_words(" (")?;
-    columns(writer, generated, declared.columns.as_slice())?;
-    constraints(writer, schema, declared, later)?;
-    writer.put_words(")")
+    page.put_words("CREATE TABLE ");
+    page.put_name(&declared.name);
+    page.put_words(" (");
+    columns(page, generated, declared.columns.as_slice());
+    constraints(page, schema, declared, later);
+    page.put_words(")");
 }
 
 fn is_unsized(kind: ColumnKind) -> bool
@@ -319,7 +288,6 @@ fn text_of(writer: Writer) -> Text
 }
 
 /// CREATE TABLE where each column has a type.
-#[tactic(auto, using(sql_text::proofs::Behind::text_is))]
 fn created(
     alloc: Global,
     dialect: Dialect,
@@ -330,8 +298,9 @@ fn created(
     ensures { IfOk result
         (λ text. text ≡ spec.create_text dialect schema.now declared.now later.now) }
 {
-    let mut writer = Writer::new(alloc, dialect);
-    create(&mut writer, schema, declared, later)?;
+    let mut page = Page::new(alloc, dialect);
+    create(&mut page, schema, declared, later);
+    let writer = page.written()?;
     Ok(text_of(writer))
 }
 
@@ -360,24 +329,17 @@ pub fn ddl(
     }
 }
 
-#[tactic(auto, using(sql_text::proofs::Steps::steps))]
-fn add(
-    writer: &mut Writer,
-    schema: &Schema,
-    declared: &TableSpec,
-    added: &ForeignSpec,
-) -> Result<(), AllocError>
-    ensures { Wrote (spec.alter_pieces schema.now declared.now added.now)
-        result writer.old writer.new }
+#[tactic(auto, using(sql_text::proofs::Pages::page_steps))]
+fn add(page: &mut Page, schema: &Schema, declared: &TableSpec, added: &ForeignSpec)
+    ensures { WroteOn (spec.alter_pieces schema.now declared.now added.now) page.old page.new }
 {
-    writer.put_words("ALTER TABLE ")?;
-    writer.put_name(&declared.name)?;
-    writer.put_words(" ADD ")?;
-    foreign(writer, schema, added)
+    page.put_words("ALTER TABLE ");
+    page.put_name(&declared.name);
+    page.put_words(" ADD ");
+    foreign(page, schema, added);
 }
 
 /// ALTER TABLE that adds a foreign key.
-#[tactic(auto, unfolding(crate::specs::Ddl::alter), using(sql_text::proofs::Behind::text_is))]
 pub fn alter(
     alloc: Global,
     dialect: Dialect,
@@ -391,21 +353,21 @@ pub fn alter(
 {
     let declared = schema.spec(table);
     let added = declared.foreigns.at(number as usize);
-    let mut writer = Writer::new(alloc, dialect);
-    add(&mut writer, schema, declared, added)?;
+    let mut page = Page::new(alloc, dialect);
+    add(&mut page, schema, declared, added);
+    let writer = page.written()?;
     Ok(text_of(writer))
 }
 
-#[tactic(auto, using(sql_text::proofs::Steps::steps))]
-fn drop_table(writer: &mut Writer, schema: &Schema, table: TableId) -> Result<(), AllocError>
-    ensures { Wrote (spec.drop_pieces schema.now table) result writer.old writer.new }
+#[tactic(auto, using(sql_text::proofs::Pages::page_steps))]
+fn drop_table(page: &mut Page, schema: &Schema, table: TableId)
+    ensures { WroteOn (spec.drop_pieces schema.now table) page.old page.new }
 {
-    writer.put_words("DROP TABLE ")?;
-    writer.put_shown(table_name(schema, table))
+    page.put_words("DROP TABLE ");
+    page.put_shown(table_name(schema, table));
 }
 
 /// DROP TABLE.
-#[tactic(auto, unfolding(crate::specs::Ddl::drop_text), using(sql_text::proofs::Behind::text_is))]
 pub fn drop_text(
     alloc: Global,
     dialect: Dialect,
@@ -414,7 +376,8 @@ pub fn drop_text(
 ) -> Result<Text, AllocError>
     ensures { IfOk result (λ text. text ≡ spec.drop_text dialect schema.now table) }
 {
-    let mut writer = Writer::new(alloc, dialect);
-    drop_table(&mut writer, schema, table)?;
+    let mut page = Page::new(alloc, dialect);
+    drop_table(&mut page, schema, table);
+    let writer = page.written()?;
     Ok(text_of(writer))
 }

@@ -1,5 +1,4 @@
-pub mod Behind
 pub mod Doubling
-pub mod Led
+pub mod Pages
 pub mod Steps
 pub mod Uses

@@ -4,10 +4,12 @@
 mod bases;
 mod columns;
 mod names;
+mod page;
 mod rules;
 mod writer;
 
 pub use columns::{column_name, columns_of, table_name};
+pub use page::Page;
 pub use rules::{
     arith_least, comes_later, concat_least, exists_level, mysql_cut, prefix_least, tells_key,
 };

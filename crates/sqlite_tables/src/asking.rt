@@ -1,9 +1,9 @@
 //! Texts sent with their values, and what they answer.
 
 use base_core::{Kind, Name, RowList, Value};
-use sql_text::{Compiled, Writer};
+use sql_text::{Compiled, Page};
 use sqlite_database::{Database, Ending};
-use std::alloc::{AllocError, Global};
+use std::alloc::Global;
 
 /// The rows of a select, where its text could be made, with a value of each kind.
 pub fn ask_compiled<D: Database>(
@@ -34,12 +34,8 @@ pub(crate) fn integer_of(rows: &RowList) -> Result<Option<i64>, Ending> {
 }
 
 /// What was written, where it could be.
-pub(crate) fn finished(
-    writer: Writer,
-    written: Result<(), AllocError>,
-) -> Result<Compiled, Ending> {
-    written?;
-    Ok(writer.finish())
+pub(crate) fn finished(page: Page) -> Result<Compiled, Ending> {
+    Ok(page.written()?.finish())
 }
 
 /// Whether a select of a count, where its text could be made, counts some row.
@@ -53,11 +49,7 @@ pub(crate) fn counts_some<D: Database>(
 }
 
 /// Writes words, and a name behind them.
-pub(crate) fn put_words_and_name(
-    writer: &mut Writer,
-    words: &'static str,
-    name: &Name,
-) -> Result<(), AllocError> {
-    writer.put_words(words)?;
-    writer.put_name(name)
+pub(crate) fn put_words_and_name(page: &mut Page, words: &'static str, name: &Name) {
+    page.put_words(words);
+    page.put_name(name);
 }

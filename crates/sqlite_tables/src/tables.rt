@@ -8,17 +8,19 @@ use crate::asking::{ask_compiled, counts_some, finished, put_words_and_name};
 use base_core::{Dialect, Kind, Name, RowList, TableId, Text, Value};
 use schema_core::{ColumnSpec, Schema, TableSpec, kind_of};
 use sql_statements::sqlite::{ddl, drop_text};
-use sql_text::{Compiled, Writer};
+use sql_text::{Compiled, Page};
 use sqlite_database::{Database, Ending};
 use sqlite_selects::legal_rows;
 use std::alloc::{AllocError, Global};
 use table_log::TableLog;
 
 /// Writes the select that counts the tables of a name.
-fn put_count_of_name(writer: &mut Writer, name: &Name) -> Result<(), AllocError> {
-    writer.put_words("SELECT count(*) FROM sqlite_schema WHERE type = 'table' AND name = ")?;
-    let value = Value::Text(Text::new(String::from_str(writer.alloc(), name.get())?));
-    writer.put_value(name, &value)
+fn put_count_of_name(page: &mut Page, name: &Name) {
+    page.put_words("SELECT count(*) FROM sqlite_schema WHERE type = 'table' AND name = ");
+    match String::from_str(page.alloc(), name.get()) {
+        Ok(text) => page.put_value(name, &Value::Text(Text::new(text))),
+        Err(_) => page.give_up(),
+    }
 }
 
 /// Whether a table of this name is there.
@@ -27,9 +29,9 @@ pub fn has_table<D: Database>(
     alloc: Global,
     name: &Name,
 ) -> Result<bool, Ending> {
-    let mut writer = Writer::new(alloc, Dialect::Sqlite);
-    let written = put_count_of_name(&mut writer, name);
-    counts_some(database, alloc, finished(writer, written))
+    let mut page = Page::new(alloc, Dialect::Sqlite);
+    put_count_of_name(&mut page, name);
+    counts_some(database, alloc, finished(page))
 }
 
 /// Makes a table; true where it was not there.
@@ -81,34 +83,28 @@ fn lead(first: bool, word: &'static str) -> &'static str {
 }
 
 /// The names of columns behind a word; of the key alone, where that is asked for.
-pub(crate) fn put_names(
-    writer: &mut Writer,
-    word: &'static str,
-    columns: &[ColumnSpec],
-    key: bool,
-) -> Result<(), AllocError> {
+pub(crate) fn put_names(page: &mut Page, word: &'static str, columns: &[ColumnSpec], key: bool) {
     let mut first = true;
     for column in columns {
         if column.key || !key {
-            put_words_and_name(writer, lead(first, word), &column.name)?;
+            put_words_and_name(page, lead(first, word), &column.name);
             first = false;
         }
     }
-    Ok(())
 }
 
 /// Writes the select of all rows of a table, ascending by key.
-fn put_whole_table(writer: &mut Writer, spec: &TableSpec) -> Result<(), AllocError> {
-    put_names(writer, "SELECT ", spec.columns.as_slice(), false)?;
-    put_words_and_name(writer, " FROM ", &spec.name)?;
-    put_names(writer, " ORDER BY ", spec.columns.as_slice(), true)
+fn put_whole_table(page: &mut Page, spec: &TableSpec) {
+    put_names(page, "SELECT ", spec.columns.as_slice(), false);
+    put_words_and_name(page, " FROM ", &spec.name);
+    put_names(page, " ORDER BY ", spec.columns.as_slice(), true);
 }
 
 /// The select of all rows of a table, ascending by key.
 fn whole_table(alloc: Global, spec: &TableSpec) -> Result<Compiled, Ending> {
-    let mut writer = Writer::new(alloc, Dialect::Sqlite);
-    let written = put_whole_table(&mut writer, spec);
-    finished(writer, written)
+    let mut page = Page::new(alloc, Dialect::Sqlite);
+    put_whole_table(&mut page, spec);
+    finished(page)
 }
 
 /// The rows that SQLite answers for a table, ascending by key. Texts and bytes are ordered by their bytes, as keys are.

@@ -1,17 +1,15 @@
 -- The answer of a select of columns that neither groups, orders nor cuts: what stands in its columns, of the rows that pass.
-use Rattle.std.proofs.Common.{◌≡◌, ℕ, suc, ◌<◌, arith, Bool, true, false, ◌||◌, List, [], ◌∷◌, ◌++◌, map, filter, Option, None, Some, Result, Ok, Err, if◌then◌else◌, refl, sym, ap, subst, ◌∙◌, append_assoc, append-nil}
+use Rattle.std.proofs.Common.{◌≡◌, ℕ, suc, ◌<◌, arith, Bool, false, ◌||◌, List, [], ◌∷◌, ◌++◌, map, filter, None, Ok, Err, if◌then◌else◌, refl, sym, ap, ◌∙◌, append_assoc, append-nil}
 use Rattle.std.specs.List.{AllByRecursion, list_any}
 use Rattle.std.specs.declared.cmp.Ordering.{Ordering}
-use Rattle.std.specs.declared.cmp.Ordering.TheVariants.{Less, Equal, Greater}
+use Rattle.std.specs.declared.cmp.Ordering.TheVariants.{Greater}
 use Rattle.std.specs.Ordering.{match_ordering, nat_cmp, ordering_then}
 use Rattle.std.specs.Cmp.{nat_cmp_is}
 use Rattle.std.specs.Cmp.Lexicographic.{slice_cmp}
 use Rattle.std.specs.BTreeMap.{insert_entry}
 use Rattle.base_core.specs.declared.ids.TableId.{TableId}
 use Rattle.base_core.specs.declared.value.Value.{Value}
-use Rattle.base_core.specs.declared.refusal.Refusal.{Refusal}
 use Rattle.schema_core.specs.Catalog.{Catalog}
-use Rattle.schema_core.specs.Tables.{same_values}
 use Rattle.expr_types.specs.declared.expr.Expr.{Expr}
 use Rattle.expr_types.specs.declared.expr.Expr.TheVariants as expr
 use Rattle.expr_types.specs.declared.select.Select.{Select}
@@ -19,7 +17,6 @@ use Rattle.expr_types.specs.Level.{has_aggregate}
 use Rattle.sql_semantics.specs.Plain.{is_grouped}
 use Rattle.sql_semantics.specs.Checked.{Checked, ◌>>=◌}
 use Rattle.sql_semantics.specs.Eval.{Row, Tables, all_from, meaning_of}
-use Rattle.sql_semantics.specs.declared.basis.Basis.{Basis}
 use Rattle.sql_semantics.specs.declared.basis.Basis.TheVariants as basis
 use Rattle.sql_semantics.specs.declared.sort_key.SortKey.{SortKey}
 use Rattle.sql_semantics.specs.Order.{Rank, in_order, key_cmp, rank_cmp, ranked_from}

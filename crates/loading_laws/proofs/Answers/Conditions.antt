@@ -1,22 +1,20 @@
 -- Lists of conditions over columns and values: nothing is refused, and all hold where their values are equal.
-use Rattle.std.proofs.Common.{◌≡◌, ℕ, ◌==◌, Bool, true, false, ◌&&◌, ◌||◌, List, [], ◌∷◌, ◌++◌, filter, length, map, Option, None, Some, Result, Ok, Err, if◌then◌else◌, refl, sym, ap, subst, ◌∙◌, append_assoc, append-nil, arith}
-use Rattle.std.specs.Prelude.{slice_get}
-use Rattle.std.specs.List.{AllByRecursion, flat_map, list_all, list_any, zip}
+use Rattle.std.proofs.Common.{◌≡◌, ℕ, ◌==◌, Bool, true, false, ◌&&◌, ◌||◌, List, [], ◌∷◌, ◌++◌, filter, length, map, Ok, Err, if◌then◌else◌, refl, sym, ap, subst, ◌∙◌, append_assoc, append-nil, arith}
+use Rattle.std.specs.List.{AllByRecursion, flat_map, list_all, list_any}
 use Rattle.std.proofs.lemmas.Bool.{eqb-true}
 use Rattle.base_core.specs.declared.value.Value.{Value}
-use Rattle.schema_core.specs.Tables.{has_null, same_values, value_or_null}
 use Rattle.expr_types.specs.declared.expr.Expr.{Expr}
 use Rattle.expr_types.specs.declared.expr.Expr.TheVariants as expr
 use Rattle.sql_semantics.specs.Checked.{Checked, ◌>>=◌}
 use Rattle.sql_semantics.specs.Truth.{all3, any3, passes, truth_of, value_of}
 use Rattle.sql_semantics.specs.Eval.{Row, all_from, among, meaning_of}
-use Rattle.sql_semantics.specs.Rows.{Frame, at, condition, kept_from, rows_where}
+use Rattle.sql_semantics.specs.Rows.{Frame, at, condition, rows_where}
 use Rattle.load_columns.specs.declared.placing.SourceColumn.{SourceColumn}
 use Rattle.load_columns.specs.Conditions.{all_of, first_value, has_key, has_one_of, has_some_key, has_value, has_values, holds_first, is_in}
 use Rattle.loading_laws.specs.Answers.Equal.{are_equal, equals_key}
-use Rattle.loading_laws.specs.Answers.Answers.{IsKeyOf, value_at, values_at}
+use Rattle.loading_laws.specs.Answers.Answers.{value_at, values_at}
 use Rattle.loading_laws.proofs.Answers.Totals.{IsTest, kept_where, map_twice, values_of_all}
-use Rattle.loading_laws.proofs.Answers.Values.{all_pass, all_value, equal_passes, equal_value, equality_value, equals_known, in_passes, in_value, some_pass, some_value}
+use Rattle.loading_laws.proofs.Answers.Values.{all_pass, all_value, equal_passes, equal_value, equality_value, in_passes, in_value, some_pass, some_value}
 
 -- ---- lists of conditions
 

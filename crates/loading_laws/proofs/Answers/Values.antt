@@ -1,10 +1,9 @@
 -- The value of an equality, of `in`, and of lists of them, at any place: nothing is refused.
-use Rattle.std.proofs.Common.{◌≡◌, ℕ, suc, Bool, true, false, not, ◌&&◌, ◌||◌, List, [], ◌∷◌, ◌++◌, map, Option, None, Some, Result, Ok, Err, if◌then◌else◌, refl, sym, ap, ◌∙◌, length, arith}
-use Rattle.std.specs.List.{list_all, list_any, zip}
+use Rattle.std.proofs.Common.{◌≡◌, ℕ, Bool, true, false, not, ◌&&◌, ◌||◌, List, [], ◌∷◌, map, Option, None, Some, Ok, if◌then◌else◌, refl, sym, ap, ◌∙◌, length, arith}
+use Rattle.std.specs.List.{list_all, list_any}
 use Rattle.std.specs.declared.cmp.Ordering.{Ordering}
 use Rattle.std.specs.declared.cmp.Ordering.TheVariants.{Less, Equal, Greater}
 use Rattle.std.specs.Ordering.{is_eq, ordering_then}
-use Rattle.std.specs.Cmp.Lexicographic.{slice_cmp}
 use Rattle.base_core.specs.declared.ids.ColumnNo.{ColumnNo}
 use Rattle.base_core.specs.declared.value.Value.{Value}
 use Rattle.base_core.specs.declared.value.Value.TheVariants as value
@@ -15,10 +14,9 @@ use Rattle.expr_types.specs.declared.expr.Expr.TheVariants as expr
 use Rattle.expr_types.specs.declared.expr.CompareOp.TheVariants as op
 use Rattle.sql_semantics.specs.Checked.{Checked, ◌>>=◌}
 use Rattle.sql_semantics.specs.Truth.{all3, and3, any3, or3, passes, truth_of, value_of}
-use Rattle.sql_semantics.specs.Eval.{Meaning, Place, all_from, among, column, comparison_truth, meaning_of, pair, truth, two}
+use Rattle.sql_semantics.specs.Eval.{Meaning, Place, all_from, among, column, comparison_truth, meaning_of, truth, two}
 use Rattle.sql_semantics.proofs.Equations.{evaluated-And, evaluated-Column, evaluated-Compare, evaluated-InList, evaluated-Lit, evaluated-Or}
 use Rattle.loading_laws.specs.Answers.Equal.{are_equal, equals_key}
-use Rattle.loading_laws.proofs.Answers.Totals.{map_twice, values_of_all}
 
 -- ---- one level
 

@@ -16,7 +16,7 @@ use Rattle.schema_core.specs.Tables as held
 use Rattle.schema_core.specs.Tables.{has_null, same_values, value_or_null}
 use Rattle.expr_types.specs.declared.select.ObjectQuery.{ObjectQuery}
 use Rattle.sql_semantics.specs.Created.{bare}
-use Rattle.sql_semantics.specs.Eval.{Row, Tables, item_or_null, rows_in}
+use Rattle.sql_semantics.specs.Eval.{Row, item_or_null, rows_in}
 use Rattle.sql_semantics.specs.Rows.{answer}
 use Rattle.class_types.specs.declared.mapped.Attribute.{Attribute}
 use Rattle.class_types.specs.declared.mapped.Relation.{Relation}

@@ -1,5 +1,5 @@
 -- Lazy and select-in loads fill collections over a secondary table with the objects of the rows to which the owner's pairs lead.
-use Rattle.std.proofs.Common.{◌≡◌, true, List, [], ◌∷◌, map, Option, Some, refl, sym, ap, ◌∙◌}
+use Rattle.std.proofs.Common.{◌≡◌, true, List, [], ◌∷◌, map, Option, Some, sym, ap, ◌∙◌}
 use Rattle.std.specs.List.{All, AllByRecursion, range_with_len}
 use Rattle.std.proofs.lemmas.List.Elements.{All-from_recursion, recursion_from_All}
 use Rattle.base_core.specs.declared.ids.ObjId.{ObjId}

@@ -2,7 +2,7 @@
 use Rattle.std.proofs.Common.{◌≡◌, ◌⊎◌, inr, inl, ℕ, zero, suc, ◌+◌, ◌<◌, ◌==◌, Bool, true, false, ◌&&◌, List, [], ◌∷◌, ◌++◌, filter, length, map, Option, None, Some, if◌then◌else◌, is_some, refl, sym, ap, subst, ◌∙◌, arith, append_assoc, append-nil}
 use Rattle.std.specs.Prelude.{slice_get, unwrap_or}
 use Rattle.std.specs.Option.{option_and_then}
-use Rattle.std.specs.List.{AllByRecursion, list_any}
+use Rattle.std.specs.List.{AllByRecursion}
 use Rattle.std.proofs.lemmas.Bool.{eqb-false, eqb-true}
 use Rattle.std.proofs.lemmas.List.{length-append, length-replicate}
 use Rattle.std.proofs.lemmas.Option.{slice_get_within}
@@ -21,7 +21,7 @@ use Rattle.class_mapping.specs.Mapped.{Mapped, class_spec, root_table}
 use Rattle.class_mapping.proofs.Having.{Has, from_filter, from_flat, from_map, has_filter, has_flat, has_map}
 use Rattle.load_columns.specs.declared.placing.Placement.{Placement}
 use Rattle.load_columns.specs.declared.placing.SourceColumn.{SourceColumn}
-use Rattle.load_columns.specs.Conditions.{equal_column, equal_columns, is_in}
+use Rattle.load_columns.specs.Conditions.{equal_columns}
 use Rattle.load_selects.specs.declared.sources.Further.{Further}
 use Rattle.load_selects.specs.Branches.{discriminator_column, discriminator_of, identities, is_of_branch, names_branch}
 use Rattle.loading_laws.specs.Answers.Equal.{are_equal, equals_key}

@@ -12,7 +12,7 @@ use Rattle.schema_core.specs.Catalog.{Catalog, spec_of}
 use Rattle.schema_core.specs.Tables as held
 use Rattle.schema_core.specs.Tables.{AreAscending, Legal, key_of}
 use Rattle.sql_semantics.specs.Created.{bare}
-use Rattle.sql_semantics.specs.Eval.{Row, rows_in}
+use Rattle.sql_semantics.specs.Eval.{rows_in}
 use Rattle.loading_laws.proofs.Answers.Totals.{map_twice}
 use Rattle.loading_laws.specs.ToOne.{AreInKeyOrder}
 

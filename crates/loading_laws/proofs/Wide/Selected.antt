@@ -13,7 +13,7 @@ use Rattle.sql_semantics.specs.Eval.{Place, Row, Tables, all_from, column, meani
 use Rattle.sql_semantics.specs.Kinds.{Scope}
 use Rattle.sql_semantics.specs.Order.{in_order}
 use Rattle.sql_semantics.specs.Plain.{is_grouped, outputs}
-use Rattle.sql_semantics.specs.Rows.{Frame, answer, answer_rows, at, condition, group_bases, groups_having, kept_from, keys_from, mapped_from, of_rows, output, require_created, rows_where, sources, tables_of, values}
+use Rattle.sql_semantics.specs.Rows.{Frame, answer, answer_rows, condition, group_bases, groups_having, kept_from, keys_from, mapped_from, of_rows, output, require_created, rows_where, sources, tables_of, values}
 use Rattle.sql_semantics.specs.declared.basis.Basis.TheVariants as basis
 use Rattle.load_columns.specs.declared.placing.SourceColumn.{SourceColumn}
 use Rattle.load_columns.specs.Conditions.{column_of}

@@ -25,10 +25,11 @@ use Rattle.shell_stage.specs.declared.stage.Stage.TheVariants.{Declaring, Config
 use Rattle.shell_stage.specs.Step.{names_with}
 use Rattle.shell_steps.specs.Step.{notes_told}
 use Rattle.sqla_shell.specs.Reference.{do_and_reply}
-use Rattle.session_laws.specs.Complete.{BeginAnswersWhere, CommitAnswersWhere, FlushAnswersWhere, MayBeWritten}
+use Rattle.session_laws.specs.Complete.{CanBeWritten, CommitsAnswer, FlushesAnswer, SavepointsAnswer}
 use Rattle.session_laws.specs.Whole.{IsHale}
+use Rattle.session_laws.proofs.Preparing.{hale_readable}
 use Rattle.script_laws.specs.Scripts.{IsWholeAt, IsWholeShell, ScriptsStayWhole, after_lines}
-use Rattle.script_laws.specs.Answers.Lines.{BeginsSavepoints, BehindLines, CanBeWritten, CanBeWrittenAt, CarriesOut, HasRoomAt, IsCarriedOut, ReadsAs}
+use Rattle.script_laws.specs.Answers.Lines.{BeginsSavepoints, BehindLines, CanBeWrittenAt, CarriesOut, HasRoomAt, IsCarriedOut, ReadsAs}
 use Rattle.script_laws.proofs.Answers.Answered.{Gives, Shells, line_told, replied, tells, told_of}
 
 -- ---- a line that the session answers without words
@@ -55,16 +56,11 @@ done rules command what shell session line a tables does reads at asks is =
       names = ap (λ (u : Shells). u.own.names) goes.left;
     }
 
--- ---- what can be written of a session that is whole
-
-ready : (v : World) (after : Tables) → IsHale v → CanBeWritten v.own v.store after → MayBeWritten v after
-ready v after hale can = record { healthy = hale.healthy; whole = record { fit = hale.keyed.fit; handled = hale.handled }; links = can.links; well = can.well; no_orphan = can.no_orphan; writable = can.writable }
-
 -- ---- a flush and a commit
 
 module _ (rules : Rules) (command : Command) (what : Resolved) (m : World → Run World (Unit {0})) (does : (at : DeskState) → said_outside command at ≡ quiet (Ok (Do command)) at)
     (asks : (shell : Shells) (session : SessionState) → asked shell.own.options.dialect session.mapping shell.own.names command ≡ Ok what) (is : (v : World) → quietly m v ≡ program_of_resolved rules what v)
-    (writes : (v : World) (after : Tables) → IsHale v → CanBeWritten v.own v.store after → ((m v).answer ≡ Ok tt) × ((m v).after.store.tables ≡ after)) where
+    (writes : (v : World) (after : Tables) → IsHale v → CanBeWritten v after → ((m v).answer ≡ Ok tt) × ((m v).after.store.tables ≡ after)) where
   quiet_at : (count : ℕ) (stage : Stage) (shell : Shells) (line : List ℕ) (after : Tables) → shell.own.stage ≡ stage → IsWholeAt count stage shell.own.names shell.store → ReadsAs shell.own.desk line command → CanBeWrittenAt stage shell.store after → IsCarriedOut rules shell line after
   quiet_at count (Declaring mapping) shell line after at whole reads can = absurd can
   quiet_at count (Configured session) shell line after at whole reads can =
@@ -76,20 +72,20 @@ module _ (rules : Rules) (command : Command) (what : Resolved) (m : World → Ru
   quiet_line : (count : ℕ) (shell : Shells) → IsWholeShell count shell → CarriesOut command rules shell
   quiet_line count shell whole line after reads can = quiet_at count shell.own.stage shell line after refl whole.0 reads can
 
-pub flush_law : FlushAnswersWhere MayBeWritten → ScriptsStayWhole → BehindLines (CarriesOut words.Flush)
+pub flush_law : FlushesAnswer → ScriptsStayWhole → BehindLines (CarriesOut words.Flush)
 flush_law answers stay options rules lines few =
-    quiet_line rules words.Flush resolved.Flush acts.flush_now (λ at. refl) (λ shell session. refl) (λ v. refl) (λ v after hale can. answers v after (ready v after hale can)) (length lines)
+    quiet_line rules words.Flush resolved.Flush acts.flush_now (λ at. refl) (λ shell session. refl) (λ v. refl) (λ v after hale can. answers v after (hale_readable v hale) hale.healthy.sound can) (length lines)
     (after_lines options rules lines) (stay options rules lines few)
 
-pub commit_law : CommitAnswersWhere MayBeWritten → ScriptsStayWhole → BehindLines (CarriesOut (words.Commit None))
+pub commit_law : CommitsAnswer → ScriptsStayWhole → BehindLines (CarriesOut (words.Commit None))
 commit_law answers stay options rules lines few =
-    quiet_line rules (words.Commit None) (resolved.Commit None) acts.commit (λ at. refl) (λ shell session. refl) (λ v. refl) (λ v after hale can. answers v after (ready v after hale can)) (length lines)
+    quiet_line rules (words.Commit None) (resolved.Commit None) acts.commit (λ at. refl) (λ shell session. refl) (λ v. refl) (λ v after hale can. answers v after (hale_readable v hale) hale.healthy.sound can) (length lines)
     (after_lines options rules lines) (stay options rules lines few)
 
 -- ---- the beginning of a savepoint
 
 module _ (rules : Rules)
-    (begins : (v : World) (after : Tables) → IsHale v → CanBeWritten v.own v.store after → length v.own.frames.scopes < scope_limit → (handle : ℕ) × ((acts.begin_nested v).answer ≡ Ok handle) × ((acts.begin_nested v).after.store.tables ≡ after)) where
+    (begins : (v : World) (after : Tables) → IsHale v → CanBeWritten v after → length v.own.frames.scopes < scope_limit → (handle : ℕ) × ((acts.begin_nested v).answer ≡ Ok handle) × ((acts.begin_nested v).after.store.tables ≡ after)) where
   savepoint_at : (count : ℕ) (stage : Stage) (shell : Shells) (line name : List ℕ) (after : Tables) → shell.own.stage ≡ stage → IsWholeAt count stage shell.own.names shell.store → ReadsAs shell.own.desk line (words.BeginNested name) → CanBeWrittenAt stage shell.store after → HasRoomAt stage
       → IsCarriedOut rules shell line after × (handle : ℕ) × ((do_and_reply rules line tt shell).after.own.names ≡ bind shell.own.names name (Saved handle))
   savepoint_at count (Declaring mapping) shell line name after at whole reads can room = absurd can
@@ -105,8 +101,8 @@ module _ (rules : Rules)
         did.names,
       )
 
-pub savepoint_law : BeginAnswersWhere MayBeWritten → ScriptsStayWhole → BehindLines BeginsSavepoints
+pub savepoint_law : SavepointsAnswer → ScriptsStayWhole → BehindLines BeginsSavepoints
 savepoint_law answers stay options rules lines few line name after reads can room =
     let shell : Shells = after_lines options rules lines in
-    savepoint_at rules (λ v after hale can. answers v after (ready v after hale can)) (length lines) shell.own.stage
+    savepoint_at rules (λ v after hale can. answers v after (hale_readable v hale) hale.healthy.sound can) (length lines) shell.own.stage
     shell line name after refl (stay options rules lines few).0 reads can room

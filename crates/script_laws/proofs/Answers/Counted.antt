@@ -41,7 +41,7 @@ opened_counts (Ok block) desk = refl
 opened_counts (Err e) desk = refl
 
 outside_counts : (skip head configures : Bool) (command : Command) (desk : DeskState)
-    → (let run : Run DeskState Said = if skip then quiet (Ok Nothing) desk else if head then opened (block_of command desk.line) desk else if configures then quiet (Ok Configure) desk else quiet (done_of command) desk in run.after.refused) ≡ desk.refused
+    → (let run : Run DeskState Said = if skip then quiet (Ok Nothing) desk else if head then opened (block_of command desk.line) desk else if configures then quiet (Ok Configure) desk else quiet (Ok (done_of command)) desk in run.after.refused) ≡ desk.refused
 outside_counts true head configures command desk = refl
 outside_counts false true configures command desk = opened_counts (block_of command desk.line) desk
 outside_counts false false true command desk = refl

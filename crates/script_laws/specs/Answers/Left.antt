@@ -10,13 +10,14 @@ use Rattle.shell_stage.specs.declared.stage.Stage.TheVariants.{Declaring, Config
 use Rattle.shell_steps.specs.ShellState.{ShellState}
 use Rattle.shell_steps.specs.Step.{line_step}
 use Rattle.sqla_shell.specs.Reference.{do_and_reply}
-use Rattle.session_laws.specs.Complete.{ObjectsState}
+use Rattle.session_laws.specs.Complete.{ObjectsState, graph_read}
 use Rattle.script_laws.specs.Answers.Lines.{ReadsAs}
 
--- the tables are what the objects of the session state, where there is one
+-- the tables are what the objects of the session state, where there is one, once all is read that is to be known of those that are to be
+-- deleted
 abbrev pub IsStatedAt : Stage → Store → Tables → Type 0
 IsStatedAt (Declaring mapping) store after = Unit {0}
-IsStatedAt (Configured session) store after = ObjectsState session.mapping session.graph store.tables after
+IsStatedAt (Configured session) store after = ObjectsState session.mapping (graph_read (record { own = session; store = store })) store.tables after
 
 -- of a shell: a line that is read as this command, and is not refused, leaves the rows that the objects stated before it, and no others
 abbrev pub LeavesWhatIsStated : Command → Rules → Beside ShellState → Type 0

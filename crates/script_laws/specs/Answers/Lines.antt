@@ -1,5 +1,5 @@
 -- Lines that write all that the objects state, and what it is that they answer.
-use Rattle.std.specs.Prelude.{◌≡◌, ◌<◌, ◌≤◌, ℕ, false, List, codes, [], length, None, Ok}
+use Rattle.std.specs.Prelude.{◌≡◌, ◌<◌, ◌≤◌, ℕ, List, codes, [], length, None, Ok}
 use Rattle.schema_core.specs.Tables.{Tables}
 use Rattle.class_types.specs.Rules.{Rules}
 use Rattle.keeper_core.specs.Beside.{Beside}
@@ -9,9 +9,6 @@ use Rattle.script_read.specs.Line.{line as read_as}
 use Rattle.script_types.specs.declared.command.Command.{Command}
 use Rattle.script_types.specs.declared.command.Command.TheVariants.{BeginNested, Commit, Flush}
 use Rattle.script_types.specs.declared.command.Inside.TheVariants.{Top}
-use Rattle.session_acts.specs.Flush.{prepared_of}
-use Rattle.session_acts.specs.Steps.{orphan_fault}
-use Rattle.session_scopes.specs.SessionState.{SessionState}
 use Rattle.shell_lines.specs.Desk.{DeskState, next_line}
 use Rattle.shell_parts.specs.Bindings.{bind}
 use Rattle.shell_parts.specs.declared.names.Bound.TheVariants.{Saved}
@@ -21,7 +18,7 @@ use Rattle.shell_stage.specs.declared.stage.Stage.TheVariants.{Declaring, Config
 use Rattle.shell_steps.specs.ShellState.{ShellState}
 use Rattle.shell_steps.specs.Step.{line_step, notes_told, reply_to}
 use Rattle.sqla_shell.specs.Reference.{do_and_reply}
-use Rattle.session_laws.specs.Complete.{DeletedHaveNoOtherLinks, IsWritable}
+use Rattle.session_laws.specs.Complete.{CanBeWritten}
 use Rattle.script_laws.specs.Scripts.{after_lines}
 
 -- ---- what is said, and of what session
@@ -35,19 +32,13 @@ pub record ReadsAs (desk : DeskState) (line : List ℕ) (command : Command) : Ty
 abbrev pub WordsAreRead : Type 0
 WordsAreRead = (desk : DeskState) → desk.block ≡ None → ReadsAs desk (codes "flush") Flush × ReadsAs desk (codes "commit") (Commit None)
 
--- What the objects of a session state can be written over its store, and leaves these tables: no rollback is awaited; no orphan waits; no
--- row of an object that is to be deleted holds a value in a column of a foreign key that another class owns; there is no cycle, the new
--- rows have keys, none of which is guessed by a foreign key, no unique value passes between rows, and the tables that are stated are legal.
-pub record CanBeWritten (own : SessionState) (store : Store) (after : Tables) : Type 0 where
-  pub well : own.failed ≡ false
-  pub no_orphan : orphan_fault own ≡ None
-  pub links : DeletedHaveNoOtherLinks own.mapping own.graph (prepared_of own.graph) store.tables
-  pub writable : IsWritable own.mapping own.graph store.tables after
-
--- there is a session, and what its objects state can be written
+-- There is a session, and what its objects state can be written over its store, and leaves these tables: no rollback is awaited; what is to
+-- be known of the objects that are to be deleted can be read; no row that is deleted holds a value in a column of a foreign key that
+-- another class owns; there is no cycle, the new rows have keys, none of which is guessed by a foreign key, no unique value passes
+-- between rows, and the tables that are stated are legal.
 abbrev pub CanBeWrittenAt : Stage → Store → Tables → Type 0
 CanBeWrittenAt (Declaring mapping) store after = ⊥
-CanBeWrittenAt (Configured session) store after = CanBeWritten session store after
+CanBeWrittenAt (Configured session) store after = CanBeWritten (record { own = session; store = store }) after
 
 -- fewer than 64 savepoints are open in it
 abbrev pub HasRoomAt : Stage → Type 0

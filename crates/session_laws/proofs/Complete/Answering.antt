@@ -7,7 +7,6 @@ use Rattle.base_core.specs.declared.refusal.Refusal.{Refusal}
 use Rattle.base_core.specs.declared.refusal.Refusal.TheVariants.{LimitReached, PendingRollbackError}
 use Rattle.schema_core.specs.Tables.{Tables}
 use Rattle.keeper_core.specs.Calls as call
-use Rattle.object_arena.specs.Graph.{Graph}
 use Rattle.keeper_core.specs.Programs.{Event, Run, ◌>>=◌, continue_from, give, refuse}
 use Rattle.keeper_core.specs.Beside.{by_own, changes, on_store}
 use Rattle.savepoints.specs.declared.scope.Scope.{Scope}
@@ -17,16 +16,16 @@ use Rattle.session_calls.specs.Parts.{World, checked, fault_if, unless}
 use Rattle.session_calls.specs.Steps.{begin_unless, enter}
 use Rattle.session_calls.proofs.Acting.{no_scope_open}
 use Rattle.session_acts.specs.Savepoints.{begin_savepoint, commit_transaction, commit_whole, enter_nested, limit_fault, release_many, release_one}
-use Rattle.session_acts.specs.Flush.{flush}
+use Rattle.session_acts.specs.Flush.{flush, prepare}
 use Rattle.session_acts.specs.Steps as acts
-use Rattle.session_acts.specs.Steps.{flush_now, flush_whole, orphan_fault}
-use Rattle.session_laws.proofs.Sound.Beginning.{entered_graph}
+use Rattle.session_acts.specs.Steps.{flush_now}
 use Rattle.session_laws.proofs.Sound.Programs.{checked_same}
 use Rattle.session_laws.specs.Stating.{AnswersWhereStated}
 use Rattle.session_laws.specs.Sendable.{ChangesFit, FitPlansAreSendable}
-use Rattle.session_laws.proofs.Health.Acts.{once_begun}
-use Rattle.session_laws.specs.Complete.{BeginAnswersWhere, CommitAnswersWhere, FlushAnswersWhere, IsWritable}
-use Rattle.session_laws.proofs.Complete.Written.{IsReady, flush_written}
+use Rattle.session_laws.specs.Preparing.{IsReadable}
+use Rattle.session_laws.specs.Sound.{IsSound}
+use Rattle.session_laws.specs.Complete.{CanBeWritten, CommitsAnswer, FlushesAnswer, IsWritable, SavepointsAnswer}
+use Rattle.session_laws.proofs.Complete.Written.{IsReady, flush_written, world_read}
 
 -- ---- programs that answer
 
@@ -123,50 +122,43 @@ begun w = record { handle = w.own.drawn.drawn + 1; answered = record { answer = 
 
 -- ---- the flush
 
--- no rollback is awaited and no orphan waits, and once the transaction has begun the objects can be written
+-- no rollback is awaited, and once the transaction has begun and all is read the objects can be written
 pub record IsOpened (w : World) (after : Tables) : Type 0 where
   pub well : w.own.failed ≡ false
-  pub no_orphan : orphan_fault w.own ≡ None
-  pub ready : IsReady (enter w).after.own.mapping (enter w).after.own.graph (enter w).after.store.tables
-  pub writable : IsWritable w.own.mapping w.own.graph w.store.tables after
+  pub prepared : (prepare (enter w).after).answer ≡ Ok tt
+  pub ready : IsReady (world_read w).own.mapping (world_read w).own.graph (world_read w).store.tables
+  pub writable : IsWritable (world_read w).own.mapping (world_read w).own.graph (world_read w).store.tables after
 
 module _ (answers : AnswersWhereStated) (sendable : FitPlansAreSendable) (fits : ChangesFit) where
-  flush_done : (w : World) (after : Tables) → IsOpened w after → IsAnswered (flush_whole (enter w).after) tt after
-  unfolding flush_whole
-  flush_done w after opening =
-      let v : World = (enter w).after in
-      let writable : IsWritable v.own.mapping v.own.graph v.store.tables after = once_begun (λ mapped graph tables. IsWritable mapped graph tables after) w opening.writable in
-      let done = flush_written answers sendable fits v after opening.ready writable in
-      let no_orphan : orphan_fault v.own ≡ None = ap (λ (g : Graph). orphan_fault (record w.own { graph = g })) (entered_graph w) ∙ opening.no_orphan in
-      goes (checked orphan_fault) (λ u. flush) v tt tt after (passes orphan_fault v no_orphan)
-      (subst (λ (x : World). IsAnswered (flush x) tt after) (sym (checked_same orphan_fault v)) (record { answer = done.0; left = done.1 }))
+  flush_done : (w : World) (after : Tables) → IsOpened w after → IsAnswered (flush (enter w).after) tt after
+  flush_done w after opening = let done = flush_written answers sendable fits (enter w).after after opening.prepared opening.ready opening.writable in record { answer = done.0; left = done.1 }
 
   now_done : (w : World) (after : Tables) → IsOpened w after → IsAnswered (flush_now w) tt after
   unfolding flush_now
-  now_done w after opening = goes enter (λ u. flush_whole) w tt tt after (enter_answers w opening.well) (flush_done w after opening)
+  now_done w after opening = goes enter (λ u. flush) w tt tt after (enter_answers w opening.well) (flush_done w after opening)
 
-  module _ (Ready : World → Tables → Type 0) (opened : (w : World) (after : Tables) → Ready w after → IsOpened w after) where
-    pub flush_answers : FlushAnswersWhere Ready
-    flush_answers w after may = let done = now_done w after (opened w after may) in (done.answer, done.left)
+  module _ (opened : (w : World) (after : Tables) → IsReadable w → IsSound w → CanBeWritten w after → IsOpened w after) where
+    pub flush_answers : FlushesAnswer
+    flush_answers w after readable sound can = let done = now_done w after (opened w after readable sound can) in (done.answer, done.left)
 
-    pub commit_answers : CommitAnswersWhere Ready
+    pub commit_answers : CommitsAnswer
     unfolding acts.commit
-    commit_answers w after may =
-        let done = now_done w after (opened w after may) in
+    commit_answers w after readable sound can =
+        let done = now_done w after (opened w after readable sound can) in
         let last = whole_committed (flush_now w).after in
         let all = goes flush_now (λ u. commit_whole) w tt tt after done.answer (record { answer = last.answer; left = last.left ∙ done.left }) in
         (all.answer, all.left)
 
-    pub begin_answers_law : BeginAnswersWhere Ready
+    pub savepoint_answers : SavepointsAnswer
     unfolding acts.begin_nested enter_nested
-    begin_answers_law w after may few =
-        let opening : IsOpened w after = opened w after may in
+    savepoint_answers w after readable sound can few =
+        let opening : IsOpened w after = opened w after readable sound can in
         let v : World = (enter w).after in
         let entered : (enter w).answer ≡ Ok tt = enter_answers w opening.well in
         let passed : ((enter >>= λ u. checked limit_fault) w).answer ≡ Ok tt = (goes enter (λ u. checked limit_fault) w tt tt _ entered (record { answer = passes limit_fault v (room (length v.own.frames.scopes) (entered_few w few)); left = refl })).answer in
         let same : ((enter >>= λ u. checked limit_fault) w).after ≡ v = then_after enter (λ u. checked limit_fault) w tt entered ∙ checked_same limit_fault v in
-        let flushed : IsAnswered (flush_whole ((enter >>= λ u. checked limit_fault) w).after) tt after = subst (λ (x : World). IsAnswered (flush_whole x) tt after) (sym same) (flush_done w after opening) in
-        let last = begun (flush_whole ((enter >>= λ u. checked limit_fault) w).after).after in
-        let acted = goes flush_whole (λ u. begin_savepoint) ((enter >>= λ u. checked limit_fault) w).after tt last.handle after flushed.answer (record { answer = last.answered.answer; left = last.answered.left ∙ flushed.left }) in
-        let all = goes (enter >>= λ u. checked limit_fault) (λ u. flush_whole >>= λ u. begin_savepoint) w tt last.handle after passed acted in
+        let flushed : IsAnswered (flush ((enter >>= λ u. checked limit_fault) w).after) tt after = subst (λ (x : World). IsAnswered (flush x) tt after) (sym same) (flush_done w after opening) in
+        let last = begun (flush ((enter >>= λ u. checked limit_fault) w).after).after in
+        let acted = goes flush (λ u. begin_savepoint) ((enter >>= λ u. checked limit_fault) w).after tt last.handle after flushed.answer (record { answer = last.answered.answer; left = last.answered.left ∙ flushed.left }) in
+        let all = goes (enter >>= λ u. checked limit_fault) (λ u. flush >>= λ u. begin_savepoint) w tt last.handle after passed acted in
         (last.handle, all.answer, all.left)

@@ -1,5 +1,5 @@
--- No flush is refused as not built, where no orphan waits.
-use Rattle.std.proofs.Common.{◌≡◌, ℕ, ◌-◌, Bool, true, false, List, [], ◌∷◌, length, None, Result, Ok, Err, refl, sym, ap, ◌∙◌, subst}
+-- No flush is refused as not built.
+use Rattle.std.proofs.Common.{◌≡◌, ℕ, ◌-◌, Bool, true, false, List, [], ◌∷◌, length, Result, Ok, Err, refl, sym, ap, ◌∙◌}
 use Rattle.std.specs.Prelude.{◌==◌, if◌then◌else◌}
 use Rattle.base_core.specs.declared.ids.TableId.{TableId}
 use Rattle.base_core.specs.declared.refusal.Refusal.{Refusal}
@@ -13,15 +13,13 @@ use Rattle.schema_core.specs.declared.statement.Violation.TheVariants as violati
 use Rattle.schema_core.specs.Apply.{Outcome, apply, table_of}
 use Rattle.schema_core.specs.Catalog.{Catalog}
 use Rattle.schema_core.specs.Refusals.{violation_refusal}
-use Rattle.class_mapping.specs.Mapped.{Mapped}
-use Rattle.object_arena.specs.Graph.{Graph}
 use Rattle.flush_order.specs.Orders.{delete_order, gone_rows, insert_order}
 use Rattle.flush_plan.specs.Flushing.{Keys, statement_sent, was_missing}
 use Rattle.flush_plan.specs.Planning.{plan, unless_gone_cycle, unless_new_cycle}
 use Rattle.object_rows.specs.declared.prepared.Prepared.{Prepared}
 use Rattle.keeper_core.specs.Calls as call
 use Rattle.keeper_core.specs.Calls.{run_of_write}
-use Rattle.keeper_core.specs.Programs.{Event, Run, ◌>>=◌, ask, continue_from, each, give, refuse, undo_on_refusal, with_undo}
+use Rattle.keeper_core.specs.Programs.{Event, Run, ◌>>=◌, ask, each, give, refuse, undo_on_refusal, with_undo}
 use Rattle.keeper_core.specs.Beside.{by_own, changes, on_own, on_store}
 use Rattle.session_scopes.specs.Scoping.{session_failed}
 use Rattle.session_scopes.specs.SessionState.{in_transaction, with_notes, with_warnings}
@@ -29,37 +27,30 @@ use Rattle.session_calls.specs.Parts.{World, checked, fault_if, roll_back_scope,
 use Rattle.session_calls.specs.Steps.{begin_unless, enter}
 use Rattle.plan_statements.specs.Known.{is_sendable}
 use Rattle.session_statements.specs.Run.{keys_by_place, keys_unless, send_one, send_plan, write_if}
-use Rattle.session_acts.specs.Flush.{flush, give_up, prepare, prepared_of, session_flushed, write_objects, write_prepared, write_rows, write_warned}
+use Rattle.object_records.specs.declared.kept.Held.{Held}
+use Rattle.object_records.specs.Kept.{held_in}
+use Rattle.prepared_objects.specs.Leaving.{prepared_of}
+use Rattle.session_scopes.specs.Keeping.{session_given_back}
+use Rattle.session_acts.specs.Flush.{flush, give_up, give_up_to, prepare, session_flushed, write_loaded, write_objects, write_prepared, write_rows, write_warned}
 use Rattle.session_acts.specs.Outcome.{changes_of}
-use Rattle.session_acts.specs.Steps.{flush_now, flush_whole, orphan_fault}
+use Rattle.session_acts.specs.Steps.{flush_now}
 use Rattle.session_laws.specs.Complete.{FlushesAreBuilt}
-use Rattle.session_laws.specs.Flushes.{AreSendable}
+use Rattle.session_laws.specs.Flushes.{AreSendable, prepared_world}
 use Rattle.session_laws.specs.Plans.Laws.{before}
+use Rattle.session_laws.specs.Preparing.{IsReadable, PreparationsKnowAll, PreparationsLeaveReread}
 use Rattle.session_laws.specs.Sendable.{ChangesFit, FitPlansAreSendable}
 use Rattle.session_laws.specs.Sound.{IsSound}
-use Rattle.session_laws.specs.SoundFlushes.{IsToldSession}
-use Rattle.session_laws.proofs.Complete.Answering.{enter_answers, passes}
+use Rattle.session_laws.proofs.Whole.Reads.{enter_readable}
+use Rattle.session_laws.proofs.Complete.Answering.{enter_answers}
+use Rattle.session_laws.proofs.Complete.Opened.{stands_read}
+use Rattle.session_laws.proofs.Complete.Reads.{IsBuilt, built_changes, built_then, prepare_built}
 use Rattle.session_laws.proofs.Complete.Written.{sendable_then}
 use Rattle.session_laws.proofs.Flushes.Sending.{sent_one, sofar_of}
-use Rattle.session_laws.proofs.Health.Acts.{IsInside, enter_led, told}
 use Rattle.session_laws.proofs.OwnRows.Standing.{hierarchies, own_rows}
-use Rattle.session_laws.proofs.Sound.Beginning.{entered_graph, entered_mapping}
-use Rattle.session_laws.proofs.Sound.Programs.{checked_same}
-use Rattle.session_laws.proofs.SoundFlushes.Told.{stand}
+use Rattle.session_laws.proofs.Preparing.{prepare_readable}
+use Rattle.session_laws.proofs.Sound.Beginning.{enter_sound, entered_open}
 
--- ---- programs that are never refused so
-
--- the run is not refused as not built
-abbrev IsBuilt : {A : Type 0} → Run World A → Type 0
-IsBuilt run = run.answer ≡ Err NotBuilt → ⊥
-
-built_from : {A B : Type 0} (events : List Event) (v : World) (r : Result A Refusal) (next : A → World → Run World B) → (r ≡ Err NotBuilt → ⊥) → ((a : A) → r ≡ Ok a → IsBuilt (next a v)) → IsBuilt (continue_from events v r next)
-built_from events v (Ok a) next first second is = second a refl is
-built_from events v (Err e) next first second is = let same : e ≡ NotBuilt = cc in first (ap (λ (d : Refusal). Err d) same)
-
-built_then : {A B : Type 0} (m : World → Run World A) (next : A → World → Run World B) (w : World) → IsBuilt (m w) → ((a : A) → (m w).answer ≡ Ok a → IsBuilt (next a (m w).after)) → IsBuilt ((m >>= next) w)
-unfolding ◌>>=◌
-built_then m next w first second = built_from (m w).events (m w).after (m w).answer next first second
+-- ---- answers
 
 -- what answers is not refused
 answered : {A : Type 0} (r : Result A Refusal) (a : A) → r ≡ Ok a → r ≡ Err NotBuilt → ⊥
@@ -157,13 +148,17 @@ warned_built prepared rows w fit =
     built_then (changes (with_warnings rows.warnings)) (λ u. write_rows prepared rows) w (λ refused. cc)
     (λ u is. rows_built prepared rows (changes (with_warnings rows.warnings) w).after fit)
 
-objects_built : (w : World) → AreFit (changes_of w.own) w → IsBuilt (write_objects w)
-unfolding write_objects prepare write_prepared by_own give
-objects_built w fit =
-    built_then prepare write_prepared w (λ refused. cc)
-    (λ prepared is.
-    let ready : prepared_of w.own.graph ≡ prepared = cc in
-    subst (λ (p : Prepared). IsBuilt (write_prepared p w)) ready (warned_built (prepared_of w.own.graph) (changes_of w.own) w fit))
+loaded_built : (w : World) → AreFit (changes_of w.own) w → IsBuilt (write_loaded w)
+unfolding write_loaded write_prepared by_own
+loaded_built w fit = warned_built (prepared_of w.own.mapping w.own.graph) (changes_of w.own) w fit
+
+-- what a session changes that is prepared fits the schema
+abbrev IsFitBehind : World → Type 0
+IsFitBehind w = (prepare w).answer ≡ Ok tt → AreFit (changes_of (prepared_world w).own) (prepared_world w)
+
+objects_built : (w : World) → IsFitBehind w → IsBuilt (write_objects w)
+unfolding write_objects
+objects_built w fit = built_then prepare (λ u. write_loaded) w (prepare_built w) (λ u is. loaded_built (prepared_world w) (fit is))
 
 -- a scope that is given up is gone back to
 gone_back : (first : Bool) (depth : ℕ) (w : World) → (on_store with_notes (if first then call.rollback else call.rollback_to depth) w).answer ≡ Ok tt
@@ -177,15 +172,20 @@ given_up w =
     let depth : ℕ = length w.own.frames.scopes in
     built_then (on_store with_notes (roll_back_scope depth)) (λ u. changes session_failed) w (answered (on_store with_notes (roll_back_scope depth) w).answer tt (gone_back (depth == 1) (depth - 1) w)) (λ u is refused. cc)
 
-undone_built : (events : List Event) (w : World) (r : Result (Unit {0}) Refusal) → (r ≡ Err NotBuilt → ⊥) → IsBuilt (undo_on_refusal events w r give_up)
-unfolding refuse
-undone_built events w (Ok u) never is = cc
-undone_built events w (Err e) never is =
-    built_then give_up (λ u. refuse e) w (given_up w) (λ u undone refused. let same : e ≡ NotBuilt = cc in never (ap (λ (d : Refusal). Err d) same)) is
+module _ (held : List Held) where
+  up_built : (w : World) → IsBuilt (give_up_to held w)
+  unfolding give_up_to
+  up_built w = built_then (changes (session_given_back held)) (λ u. give_up) w (built_changes (session_given_back held) w) (λ u is. given_up (changes (session_given_back held) w).after)
 
-inside_built : (w : World) → AreFit (changes_of w.own) w → IsBuilt (flush w)
-unfolding flush with_undo
-inside_built w fit = undone_built (write_objects w).events (write_objects w).after (write_objects w).answer (objects_built w fit)
+  undone_built : (events : List Event) (w : World) (r : Result (Unit {0}) Refusal) → (r ≡ Err NotBuilt → ⊥) → IsBuilt (undo_on_refusal events w r (give_up_to held))
+  unfolding refuse
+  undone_built events w (Ok u) never is = cc
+  undone_built events w (Err e) never is =
+      built_then (give_up_to held) (λ u. refuse e) w (up_built w) (λ u undone refused. let same : e ≡ NotBuilt = cc in never (ap (λ (d : Refusal). Err d) same)) is
+
+inside_built : (w : World) → IsFitBehind w → IsBuilt (flush w)
+unfolding flush with_undo by_own
+inside_built w fit = undone_built (held_in w.own.graph) (write_objects w).events (write_objects w).after (write_objects w).answer (objects_built w fit)
 
 -- ---- the call
 
@@ -206,28 +206,19 @@ entered_built w = by w.own.failed refl
     by false is = answered (enter w).answer tt (enter_answers w is)
     by true is = other_refusal PendingRollbackError (enter w).answer (enter_refused w is) (λ same. cc)
 
-whole_built : (v : World) → AreFit (changes_of v.own) v → orphan_fault v.own ≡ None → IsBuilt (flush_whole v)
-unfolding flush_whole
-whole_built v fit none =
-    built_then (checked orphan_fault) (λ u. flush) v (answered (checked orphan_fault v).answer tt (passes orphan_fault v none))
-    (λ u is. subst (λ (x : World). IsBuilt (flush x)) (sym (checked_same orphan_fault v)) (inside_built v fit))
+module _ (reads : PreparationsLeaveReread) (knows : PreparationsKnowAll) (sendable : FitPlansAreSendable) (fits : ChangesFit) where
+  -- what the objects change, once they are prepared, fits the schema when it is sent
+  fit_inside : (w : World) → in_transaction w.own ≡ true → IsReadable w → IsSound w → IsFitBehind w
+  fit_inside w inside can sound prepared statements planned =
+      let mid : World = prepared_world w in
+      let decided : Prepared = prepared_of mid.own.mapping mid.own.graph in
+      let readable : IsReadable mid = prepare_readable reads w can in
+      let own = own_rows mid.own.mapping mid.own.graph decided mid.store.tables (stands_read reads knows w inside can sound prepared) in
+      sendable_then mid.own.mapping.schema (changes_of mid.own) statements (before mid.store.tables)
+      (sendable mid.own.mapping.schema (changes_of mid.own) statements mid.store.tables
+      (fits mid.own.mapping mid.own.graph decided readable.well (hierarchies mid.own.mapping readable.well) own.fit readable.one own.keyed) planned)
 
--- what the objects of a told session change fits the schema when it is sent
-fit_inside : FitPlansAreSendable → ChangesFit → (v : World) → IsToldSession v → IsSound v → AreFit (changes_of v.own) v
-fit_inside sendable fits v holds sound statements planned =
-    let prepared : Prepared = prepared_of v.own.graph in
-    let own = own_rows v.own.mapping v.own.graph prepared v.store.tables (stand v holds sound) in
-    sendable_then v.own.mapping.schema (changes_of v.own) statements (before v.store.tables)
-    (sendable v.own.mapping.schema (changes_of v.own) statements v.store.tables
-    (fits v.own.mapping v.own.graph prepared holds.well (hierarchies v.own.mapping holds.well) own.fit sound.graph own.keyed) planned)
-
-pub flush_built : FitPlansAreSendable → ChangesFit → FlushesAreBuilt
-unfolding flush_now
-flush_built sendable fits w healthy whole none is =
-    built_then enter (λ u. flush_whole) w (entered_built w)
-    (λ u entered.
-    let v : World = (enter w).after in
-    let led : IsInside w.own.mapping v = (enter_led w whole healthy).told u entered in
-    let inside : IsInside v.own.mapping v = subst (λ (m : Mapped). IsInside m v) (sym (entered_mapping w)) led in
-    whole_built v (fit_inside sendable fits v (told v.own.mapping v inside) inside.healthy.sound) (ap (λ (g : Graph). orphan_fault (record w.own { graph = g })) (entered_graph w) ∙ none))
-    is
+  pub flush_built : FlushesAreBuilt
+  unfolding flush_now
+  flush_built w can sound is =
+      built_then enter (λ u. flush) w (entered_built w) (λ u entered. inside_built (enter w).after (fit_inside (enter w).after (entered_open w u entered) (enter_readable w can) (enter_sound w sound))) is

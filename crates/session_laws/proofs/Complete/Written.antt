@@ -16,9 +16,11 @@ use Rattle.session_laws.specs.Plans.Premises.{IsSorted}
 use Rattle.plan_statements.specs.Known.{is_sendable}
 use Rattle.session_laws.specs.Graphs.{IsTold, IsWellMapped}
 use Rattle.session_calls.specs.Parts.{World}
-use Rattle.session_acts.specs.Flush.{flush, prepared_of}
+use Rattle.session_calls.specs.Steps.{enter}
+use Rattle.prepared_objects.specs.Leaving.{prepared_of}
+use Rattle.session_acts.specs.Flush.{flush, prepare}
 use Rattle.session_acts.specs.Outcome.{changes_of}
-use Rattle.session_laws.specs.Flushes.{AreSendable}
+use Rattle.session_laws.specs.Flushes.{AreSendable, prepared_world}
 use Rattle.session_laws.specs.Stating.{AnswersWhereStated}
 use Rattle.session_laws.specs.Sendable.{ChangesFit, FitPlansAreSendable, HoldWhenSent}
 use Rattle.session_laws.specs.Complete.{IsWritable}
@@ -30,7 +32,11 @@ pub record IsReady (mapped : Mapped) (graph : Graph) (old : Tables) : Type 0 whe
   pub is : IsGraph graph.objects graph.roots
   pub legal : Legal mapped.schema old
   pub sorted : IsSorted old
-  pub told : IsTold mapped graph (prepared_of graph) old
+  pub told : IsTold mapped graph (prepared_of mapped graph) old
+
+-- the session in its transaction, when all is read that is to be known of the objects that are to be deleted, and the store
+abbrev pub world_read : World → World
+world_read w = prepared_world (enter w).after
 
 pub sendable_then : (schema : Catalog) (changes : RowChanges) (planned : List Planned) (sofar : Sofar) → HoldWhenSent (λ sent one. is_sendable schema changes sent.keys one ≡ true) schema changes sofar planned → AreSendable schema changes sofar planned
 sendable_then schema changes [] sofar all = tt
@@ -41,21 +47,30 @@ unfolding plan
 planned_is schema changes order gone ordered last = ap (unless_new_cycle schema changes) ordered ∙ ap (unless_gone_cycle schema changes order) last
 
 -- a flush that has begun answers
-pub flush_written : AnswersWhereStated → FitPlansAreSendable → ChangesFit → (w : World) (after : Tables) → IsReady w.own.mapping w.own.graph w.store.tables → IsWritable w.own.mapping w.own.graph w.store.tables after → ((flush w).answer ≡ Ok tt) × ((flush w).after.store.tables ≡ after)
-flush_written answers sendable fits w after ready writable =
-    let changes : RowChanges = changes_of w.own in
-    let planned : List Planned = statements w.own.mapping.schema changes writable.order writable.gone in
-    let is : plan w.own.mapping.schema changes ≡ Ok planned = planned_is w.own.mapping.schema changes writable.order writable.gone writable.ordered writable.gone_ordered in
-    let fit = fits w.own.mapping w.own.graph (prepared_of w.own.graph) ready.well ready.hierarchies ready.told.fit ready.is ready.told.keyed in
-    answers w writable.order writable.placed after planned ready.well ready.told
+pub flush_written : AnswersWhereStated → FitPlansAreSendable → ChangesFit → (w : World) (after : Tables) → (prepare w).answer ≡ Ok tt
+    → IsReady (prepared_world w).own.mapping (prepared_world w).own.graph (prepared_world w).store.tables → IsWritable (prepared_world w).own.mapping (prepared_world w).own.graph (prepared_world w).store.tables after
+    → ((flush w).answer ≡ Ok tt) × ((flush w).after.store.tables ≡ after)
+flush_written answers sendable fits w after prepared ready writable =
+    let mid : World = prepared_world w in
+    let schema : Catalog = mid.own.mapping.schema in
+    let changes : RowChanges = changes_of mid.own in
+    let planned : List Planned = statements schema changes writable.order writable.gone in
+    let is : plan schema changes ≡ Ok planned = planned_is schema changes writable.order writable.gone writable.ordered writable.gone_ordered in
+    let fit = fits mid.own.mapping mid.own.graph (prepared_of mid.own.mapping mid.own.graph) ready.well ready.hierarchies ready.told.fit ready.is ready.told.keyed in
+    answers w writable.order writable.placed after planned prepared
     (record {
-      sorted = ready.sorted;
-      legal = ready.legal;
-      legal_after = writable.legal;
-      clear = writable.clear;
-      ordered = writable.ordered;
-      keys = writable.keys;
-      states = writable.states;
-      no_guess = writable.no_guess;
+      mapped = ready.well;
+      told = ready.told;
+      stated = record {
+        sorted = ready.sorted;
+        legal = ready.legal;
+        legal_after = writable.legal;
+        clear = writable.clear;
+        ordered = writable.ordered;
+        keys = writable.keys;
+        states = writable.states;
+        no_guess = writable.no_guess;
+      };
+      planned = is;
+      fit = sendable_then schema changes planned (before mid.store.tables) (sendable schema changes planned mid.store.tables fit is);
     })
-    is (sendable_then w.own.mapping.schema changes planned (before w.store.tables) (sendable w.own.mapping.schema changes planned w.store.tables fit is))

@@ -23,9 +23,11 @@ use Rattle.session_scopes.specs.SessionState.{with_notes, with_warnings}
 use Rattle.session_calls.specs.Parts.{World}
 use Rattle.plan_statements.specs.Known.{is_sendable}
 use Rattle.session_statements.specs.Run.{keys_by_place, keys_unless, send_one, send_plan, write_if}
-use Rattle.session_acts.specs.Flush.{flush, give_up, prepare, prepared_of, session_flushed, write_objects, write_prepared, write_rows, write_warned}
+use Rattle.object_records.specs.Kept.{held_in}
+use Rattle.prepared_objects.specs.Leaving.{prepared_of}
+use Rattle.session_acts.specs.Flush.{flush, give_up_to, prepare, session_flushed, write_loaded, write_objects, write_prepared, write_rows, write_warned}
 use Rattle.session_acts.specs.Outcome.{changes_of}
-use Rattle.session_laws.specs.Flushes.{AreSendable}
+use Rattle.session_laws.specs.Flushes.{AnswersWhereAccepted, AreSendable, prepared_world}
 use Rattle.session_laws.proofs.Flushes.Sending.{sofar_of}
 
 -- a program answers this, and leaves these tables
@@ -119,18 +121,25 @@ unfolding write_warned changes
 warned_answer prepared rows w last accepted =
     goes_on (changes (with_warnings rows.warnings)) (λ u. write_rows prepared rows) w tt tt last.tables refl (rows_answer prepared rows (changes (with_warnings rows.warnings) w).after last accepted)
 
-objects_answer : (w : World) (last : Sofar) → IsAccepted w.own.mapping.schema (changes_of w.own) w.store.tables last → Answers (write_objects w) tt last.tables
-unfolding write_objects prepare write_prepared by_own give
-objects_answer w last accepted = goes_on prepare write_prepared w (prepared_of w.own.graph) tt last.tables refl (warned_answer (prepared_of w.own.graph) (changes_of w.own) w last accepted)
+loaded_answer : (w : World) (last : Sofar) → IsAccepted w.own.mapping.schema (changes_of w.own) w.store.tables last → Answers (write_loaded w) tt last.tables
+unfolding write_loaded write_prepared by_own
+loaded_answer w last accepted = warned_answer (prepared_of w.own.mapping w.own.graph) (changes_of w.own) w last accepted
 
-flush_answers : (w : World) (last : Sofar) → IsAccepted w.own.mapping.schema (changes_of w.own) w.store.tables last → Answers (flush w) tt last.tables
-unfolding flush with_undo
-flush_answers w last accepted =
-    let done = objects_answer w last accepted in
-    subst (λ (r : Result (Unit {0}) Refusal). Answers (undo_on_refusal (write_objects w).events (write_objects w).after r give_up) tt last.tables) (sym done.answer) (record { answer = refl; tables = done.tables })
+-- what a session that is prepared changes is accepted
+abbrev IsAcceptedBehind : World → Sofar → Type 0
+IsAcceptedBehind mid last = IsAccepted mid.own.mapping.schema (changes_of mid.own) mid.store.tables last
 
-pub accepted_answers : (world : World) (statements : List Planned) (sofar : Sofar) → plan world.own.mapping.schema (changes_of world.own) ≡ Ok statements
-    → AreSendable world.own.mapping.schema (changes_of world.own) (record { tables = world.store.tables; keys = [] }) statements
-    → send_all world.own.mapping.schema (changes_of world.own) (Ok (record { tables = world.store.tables; keys = [] })) statements ≡ Ok sofar → ((flush world).answer ≡ Ok tt) × ((flush world).after.store.tables ≡ sofar.tables)
-accepted_answers world statements sofar planned fit sent =
-    let done = flush_answers world sofar (record { statements = statements; planned = planned; fit = fit; sent = sent }) in (done.answer, done.tables)
+objects_answer : (w : World) (last : Sofar) → (prepare w).answer ≡ Ok tt → IsAcceptedBehind (prepared_world w) last → Answers (write_objects w) tt last.tables
+unfolding write_objects
+objects_answer w last ready accepted = goes_on prepare (λ u. write_loaded) w tt tt last.tables ready (loaded_answer (prepared_world w) last accepted)
+
+flush_answers : (w : World) (last : Sofar) → (prepare w).answer ≡ Ok tt → IsAcceptedBehind (prepared_world w) last → Answers (flush w) tt last.tables
+unfolding flush with_undo by_own
+flush_answers w last ready accepted =
+    let done = objects_answer w last ready accepted in
+    subst (λ (r : Result (Unit {0}) Refusal). Answers (undo_on_refusal (write_objects w).events (write_objects w).after r (give_up_to (held_in w.own.graph))) tt last.tables) (sym done.answer)
+    (record { answer = refl; tables = done.tables })
+
+pub accepted_answers : AnswersWhereAccepted
+accepted_answers world statements sofar ready planned fit sent =
+    let done = flush_answers world sofar ready (record { statements = statements; planned = planned; fit = fit; sent = sent }) in (done.answer, done.tables)

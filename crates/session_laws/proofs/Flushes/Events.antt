@@ -24,7 +24,10 @@ use Rattle.session_scopes.specs.SessionState.{with_notes, with_warnings}
 use Rattle.session_calls.specs.Parts.{World}
 use Rattle.plan_statements.specs.Known.{is_sendable}
 use Rattle.session_statements.specs.Run.{keys_by_place, keys_unless, send_one, send_plan, write_if}
-use Rattle.session_acts.specs.Flush.{flush, give_up, prepare, prepared_of, session_flushed, write_objects, write_prepared, write_rows, write_warned}
+use Rattle.object_records.specs.Kept.{held_in}
+use Rattle.prepared_objects.specs.Leaving.{prepared_of}
+use Rattle.session_acts.specs.Flush.{flush, give_up_to, prepare, session_flushed, write_loaded, write_objects, write_prepared, write_rows, write_warned}
+use Rattle.session_laws.specs.Flushes.{prepared_world}
 use Rattle.session_acts.specs.Outcome.{changes_of}
 use Rattle.session_laws.specs.Flushes.{sent_by, statements_sent}
 use Rattle.session_laws.proofs.Flushes.Answered.{IsDone, IsJoined, done_of, joined_of}
@@ -135,18 +138,24 @@ prepared_told : (prepared : Prepared) (w : World) → (write_prepared prepared w
 unfolding write_prepared by_own
 prepared_told prepared w is = warned_told prepared (project w.own.mapping w.own.graph prepared) w is
 
-objects_told : (w : World) → (write_objects w).answer ≡ Ok tt → IsTold (changes_of w.own) w (write_objects w)
-unfolding write_objects prepare by_own give
-objects_told w is =
-    let joined : IsJoined prepare write_prepared w tt = joined_of prepare write_prepared w tt is in
-    let ready : prepared_of w.own.graph ≡ joined.middle = cc in
-    let sent : IsTold (changes_of w.own) w (write_prepared (prepared_of w.own.graph) w) =
-    prepared_told (prepared_of w.own.graph) w (ap (λ (p : Prepared). (write_prepared p w).answer) ready ∙ joined.second) in
-    (sent.0, sent.1, second_sent prepare write_prepared w (prepared_of w.own.graph) refl refl ∙ sent.2)
+-- the run sends what was sent first, and the plan of the changes of the session that is prepared
+abbrev IsToldBehind : World → World → Run World (Unit {0}) → Type 0
+IsToldBehind w mid run =
+    (statements : List Planned) × (plan mid.own.mapping.schema (changes_of mid.own) ≡ Ok statements)
+    × (sent_in run ≡ sent_in (prepare w) ++ statements_sent mid.own.mapping.schema (changes_of mid.own) (Ok (sofar_of mid [])) statements)
 
-pub flush_told : (w : World) → (flush w).answer ≡ Ok tt → IsTold (changes_of w.own) w (flush w)
-unfolding flush with_undo
+objects_told : (w : World) → (write_objects w).answer ≡ Ok tt → IsToldBehind w (prepared_world w) (write_objects w)
+unfolding write_objects write_loaded by_own
+objects_told w is =
+    let mid : World = prepared_world w in
+    let joined : IsJoined prepare (λ u. write_loaded) w tt = joined_of prepare (λ u. write_loaded) w tt is in
+    let sent : IsTold (changes_of mid.own) mid (write_loaded mid) = prepared_told (prepared_of mid.own.mapping mid.own.graph) mid joined.second in
+    (sent.0, sent.1, both_sent prepare (λ u. write_loaded) w tt joined.first ∙ ap (λ (behind : List Sent). sent_in (prepare w) ++ behind) sent.2)
+
+pub flush_told : (w : World) → (flush w).answer ≡ Ok tt → IsToldBehind w (prepared_world w) (flush w)
+unfolding flush with_undo by_own
 flush_told w is =
-    let done : IsDone write_objects give_up w tt = done_of write_objects give_up w tt is in
-    let sent : IsTold (changes_of w.own) w (write_objects w) = objects_told w done.answer in
-    (sent.0, sent.1, ap (λ (r : Result (Unit {0}) Refusal). sent_in (undo_on_refusal (write_objects w).events (write_objects w).after r give_up)) done.answer ∙ sent.2)
+    let undo : World → Run World (Unit {0}) = give_up_to (held_in w.own.graph) in
+    let done : IsDone write_objects undo w tt = done_of write_objects undo w tt is in
+    let sent : IsToldBehind w (prepared_world w) (write_objects w) = objects_told w done.answer in
+    (sent.0, sent.1, ap (λ (r : Result (Unit {0}) Refusal). sent_in (undo_on_refusal (write_objects w).events (write_objects w).after r undo)) done.answer ∙ sent.2)

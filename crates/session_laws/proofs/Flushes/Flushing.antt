@@ -22,7 +22,10 @@ use Rattle.keeper_core.specs.Beside.{by_own, changes, on_own, on_store}
 use Rattle.session_scopes.specs.SessionState.{with_notes, with_warnings}
 use Rattle.session_calls.specs.Parts.{World}
 use Rattle.session_statements.specs.Run.{keys_by_place, send_one, send_plan}
-use Rattle.session_acts.specs.Flush.{flush, give_up, prepare, prepared_of, session_flushed, write_objects, write_prepared, write_rows, write_warned}
+use Rattle.object_records.specs.Kept.{held_in}
+use Rattle.prepared_objects.specs.Leaving.{prepared_of}
+use Rattle.session_acts.specs.Flush.{flush, give_up_to, prepare, session_flushed, write_loaded, write_objects, write_prepared, write_rows, write_warned}
+use Rattle.session_laws.specs.Flushes.{prepared_world}
 use Rattle.session_acts.specs.Outcome.{changes_of}
 use Rattle.session_laws.proofs.Flushes.Answered.{IsDone, IsJoined, done_of, joined_of}
 use Rattle.session_laws.proofs.Flushes.Kept.{IsKeptByWrites, plan_keeps}
@@ -130,18 +133,28 @@ prepared_sent : (prepared : Prepared) (w : World) → (write_prepared prepared w
 unfolding write_prepared by_own
 prepared_sent prepared w is = warned_sent prepared (project w.own.mapping w.own.graph prepared) w is
 
--- what a flush of the world has sent
+-- what was sent of a session that is prepared
 abbrev pub IsFlushSent : World → World → Type 0
-IsFlushSent w now = IsSent w.own.mapping w.own.graph w.own.frames (prepared_of w.own.graph) (changes_of w.own) w.store now
+IsFlushSent w now = IsSent w.own.mapping w.own.graph w.own.frames (prepared_of w.own.mapping w.own.graph) (changes_of w.own) w.store now
 
-objects_sent : (w : World) → (write_objects w).answer ≡ Ok tt → IsFlushSent w (write_objects w).after
-unfolding write_objects prepare by_own give
+loaded_sent : (w : World) → (write_loaded w).answer ≡ Ok tt → IsFlushSent w (write_loaded w).after
+unfolding write_loaded by_own
+loaded_sent w is = prepared_sent (prepared_of w.own.mapping w.own.graph) w is
+
+-- a flush that answered was prepared, and has sent that
+pub record IsFlushDone (w now : World) : Type 0 where
+  pub prepared : (prepare w).answer ≡ Ok tt
+  pub sent : IsFlushSent (prepared_world w) now
+
+objects_sent : (w : World) → (write_objects w).answer ≡ Ok tt → IsFlushDone w (write_objects w).after
+unfolding write_objects
 objects_sent w is =
-    let joined : IsJoined prepare write_prepared w tt = joined_of prepare write_prepared w tt is in
-    let ready : prepared_of w.own.graph ≡ joined.middle = cc in
-    subst (λ (u : World). IsFlushSent w u) (sym joined.after)
-    (subst (λ (p : Prepared). IsFlushSent w (write_prepared p w).after) ready (prepared_sent (prepared_of w.own.graph) w (ap (λ (p : Prepared). (write_prepared p w).answer) ready ∙ joined.second)))
+    let joined : IsJoined prepare (λ u. write_loaded) w tt = joined_of prepare (λ u. write_loaded) w tt is in
+    record { prepared = joined.first; sent = subst (λ (u : World). IsFlushSent (prepared_world w) u) (sym joined.after) (loaded_sent (prepared_world w) joined.second) }
 
-pub flush_sent : (w : World) → (flush w).answer ≡ Ok tt → IsFlushSent w (flush w).after
-unfolding flush
-flush_sent w is = let done : IsDone write_objects give_up w tt = done_of write_objects give_up w tt is in subst (λ (u : World). IsFlushSent w u) (sym done.after) (objects_sent w done.answer)
+pub flush_sent : (w : World) → (flush w).answer ≡ Ok tt → IsFlushDone w (flush w).after
+unfolding flush by_own
+flush_sent w is =
+    let undo : World → Run World (Unit {0}) = give_up_to (held_in w.own.graph) in
+    let done : IsDone write_objects undo w tt = done_of write_objects undo w tt is in
+    subst (λ (u : World). IsFlushDone w u) (sym done.after) (objects_sent w done.answer)

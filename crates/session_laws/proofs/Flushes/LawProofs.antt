@@ -2,7 +2,7 @@
 use Rattle.std.proofs.Common.{refl}
 use Rattle.flush_plan.specs.Flushing.{Sofar}
 use Rattle.session_acts.specs.Flush.{flush}
-use Rattle.session_laws.specs.Flushes.{AnswersWhereAccepted, LeavesLegalTables, SendsItsPlan, SendsNothingAgain, SendsPlannedStatements}
+use Rattle.session_laws.specs.Flushes.{AnswersWhereAccepted, LeavesLegalTables, SendsItsPlan, SendsNothingAgain, SendsPlannedStatements, prepared_world}
 use Rattle.session_laws.proofs.Flushes.Accepting.{accepted_answers}
 use Rattle.session_laws.proofs.Flushes.Again.{quiet_again}
 use Rattle.session_laws.proofs.Flushes.Events.{flush_told}
@@ -11,7 +11,7 @@ use Rattle.session_laws.proofs.Flushes.Legal.{flush_legal}
 
 pub sends_law : SendsItsPlan
 sends_law world is =
-    let sent : IsFlushSent world (flush world).after = flush_sent world is in
+    let sent : IsFlushSent (prepared_world world) (flush world).after = (flush_sent world is).sent in
     let sofar : Sofar = record { tables = (flush world).after.store.tables; keys = sent.keys } in
     (sent.statements, sofar, sent.planned, sent.sent, refl)
 
@@ -19,7 +19,7 @@ pub statements_law : SendsPlannedStatements
 statements_law world is = flush_told world is
 
 pub answers_law : AnswersWhereAccepted
-answers_law world statements sofar planned fit sent = accepted_answers world statements sofar planned fit sent
+answers_law = accepted_answers
 
 pub again_law : SendsNothingAgain
 again_law world marks is = quiet_again world marks is

@@ -29,19 +29,26 @@ use Rattle.session_calls.specs.Steps.{begin_unless, enter, pending_fault}
 use Rattle.session_calls.proofs.Acting.{no_scope_open}
 use Rattle.session_acts.specs.Savepoints.{begin_savepoint, check_handle, commit_whole, enter_nested, handle_fault, limit_fault, release_handle}
 use Rattle.session_statements.specs.Steps as statements
-use Rattle.session_acts.specs.Flush.{flush, prepared_of}
+use Rattle.prepared_objects.specs.Leaving.{prepared_of}
+use Rattle.session_acts.specs.Flush.{flush}
 use Rattle.session_acts.specs.Outcome.{changes_of}
 use Rattle.session_laws.proofs.Flushes.Flushing.{IsFlushSent, flush_sent}
 use Rattle.session_acts.specs.Steps as acts
+use Rattle.session_acts.proofs.Clearing.{clearable}
 use Rattle.session_acts.proofs.Unwritten.{scope_open}
-use Rattle.session_acts.specs.Steps.{IsPlainButForKeys, flush_now, flush_whole, flushing, orphan_fault}
+use Rattle.session_acts.specs.Steps.{IsPlainButForKeys, flush_now, flushing}
 use Rattle.session_laws.specs.Sound.{EachObject, IsCommittable, IsHandled, IsSound, IsWell, IsWritten}
 use Rattle.session_laws.proofs.Sound.Beginning.{enter_sound, entered_graph, entered_mapping, entered_open}
 use Rattle.session_laws.proofs.Sound.Programs.{checked_none, checked_same}
 use Rattle.session_laws.proofs.Calls.Nesting.{nest_sound}
 use Rattle.session_laws.proofs.Calls.Rereading.{bulk_sound, rows_sound}
 use Rattle.session_laws.proofs.Calls.Whole.{handle_released, whole_sound}
+use Rattle.session_laws.specs.Flushes.{prepared_world}
+use Rattle.session_laws.specs.Preparing.{IsReadable, PreparationsLeaveReread}
 use Rattle.session_laws.specs.SoundFlushes.{IsToldSession, ToldFlushIsSound, ToldFlushKeepsSound}
+use Rattle.session_laws.proofs.Flushes.Reading.{prepare_mapping}
+use Rattle.session_laws.proofs.OwnRows.Standing.{hierarchies}
+use Rattle.session_laws.proofs.Preparing.{healthy_readable, prepare_readable}
 use Rattle.session_laws.specs.Health.Health.{HoldsItsKey, IsHealthy, IsWhole, KeepsHealthWhole, is_named}
 use Rattle.session_laws.proofs.Health.Fits.{flushed_fit}
 use Rattle.session_laws.proofs.Health.Flushes.{answered_as, flush_tidy}
@@ -162,7 +169,7 @@ module _ (mapped : Mapped) (w : World) (it : IsInside mapped w) where
   keyed_at : (place : ℕ) → place < length w.own.graph.objects → is_persistent (get_or w.own.graph.objects place no_object).state ≡ true → HoldsItsKey w.own.mapping (get_or w.own.graph.objects place no_object) × (is_named (get_or w.own.graph.objects place no_object).state (get_or w.own.graph.objects place no_object).identity ≡ true)
   keyed_at place less persists =
       let named = persists_named (get_or w.own.graph.objects place no_object).state (get_or w.own.graph.objects place no_object) refl persists (it.healthy.sound.graph.identified place no_object less) in
-      ((it.healthy.tidy.own.objects place less).keyed, named)
+      (it.healthy.tidy.own.objects place less, named)
 
   pub told : IsToldSession w
   told = record {
@@ -171,7 +178,6 @@ module _ (mapped : Mapped) (w : World) (it : IsInside mapped w) where
     ascending = it.healthy.tidy.ascending;
     fit = it.fit;
     keyed = λ place less persists. let keyed = keyed_at place less persists in keyed.0 keyed.1;
-    known = λ place less. (it.healthy.tidy.own.objects place less).known;
   }
 
 -- a flush leaves it sound
@@ -191,31 +197,36 @@ writes_all answers mapped w it is = answers w (told mapped w it) it.healthy.soun
 pub identified_objects : (w : World) → IsHealthy w → EachObject (λ (o : Object). is_identified o ≡ true) w.own.graph
 identified_objects w healthy place less = healthy.sound.graph.identified place no_object less
 
+-- rows can be read into its objects
+pub inside_readable : (mapped : Mapped) (w : World) → IsInside mapped w → IsReadable w
+inside_readable mapped w it = healthy_readable w (record { fit = it.fit; handled = it.well.handled }) it.healthy
+
 pub ready : (w : World) → IsHealthy w → IsReady w
 ready w healthy = record { tidy = healthy.tidy; identified = identified_objects w healthy }
 
-module _ (keeps : FlushLeavesSound) (answers : FlushWritesAll) where
+module _ (reads : PreparationsLeaveReread) (keeps : FlushLeavesSound) (answers : FlushWritesAll) where
   flush_healthy : (mapped : Mapped) (w : World) → IsInside mapped w → IsHealthy (flush w).after
-  flush_healthy mapped w it = record {
-    sound = keeps mapped w it;
-    tidy = flush_tidy w (identified_objects w it.healthy) it.healthy.tidy;
-  }
+  flush_healthy mapped w it = record { sound = keeps mapped w it; tidy = flush_tidy reads w (inside_readable mapped w it) it.healthy.tidy }
 
   flush_done : (mapped : Mapped) (w : World) (u : Unit {0}) → IsInside mapped w → (flush w).answer ≡ Ok u → IsFlushed mapped (flush w).after
   flush_done mapped w u it is =
-      let sent : IsFlushSent w (flush w).after = flush_sent w is in
-      let like = answered_as w u it.healthy.tidy is in
+      let can : IsReadable w = inside_readable mapped w it in
+      let mid : World = prepared_world w in
+      let there : IsReadable mid = prepare_readable reads w can in
+      let sent : IsFlushSent mid (flush w).after = (flush_sent w is).sent in
+      let like = answered_as reads w u can it.healthy.tidy is in
       let done = answers mapped w it is in
       record {
         healthy = record { sound = done.0; tidy = like.tidy };
         fit = subst (λ (m : Mapped). IsFit m (flush w).after.own.graph) (sym sent.mapping)
-            (subst (λ (g : Graph). IsFit w.own.mapping g) (sym sent.objects) (flushed_fit w.own.mapping w.own.graph (prepared_of w.own.graph) (changes_of w.own) sent.given it.healthy.tidy.own.well refl it.fit));
+            (subst (λ (g : Graph). IsFit mid.own.mapping g) (sym sent.objects)
+            (flushed_fit mid.own.mapping mid.own.graph (prepared_of mid.own.mapping mid.own.graph) (changes_of mid.own) sent.given there.well (clearable mid.own.mapping mid.own.graph (hierarchies mid.own.mapping there.well).paired) there.fit));
         committable = record {
           inside = subst (λ (n : ℕ). 0 < n) (sym like.scopes) it.inside;
           well = record { handled = well_handled w (flush w).after.own it.well like.scopes like.failed like.drawn; well = like.failed ∙ it.well.well };
           written = done.1;
         };
-        same = sent.mapping ∙ it.same;
+        same = sent.mapping ∙ prepare_mapping w ∙ it.same;
       }
     where
       deep_as : (failed : Bool) (old new : List Scope) → length new ≡ length old → depth_in failed new ≡ depth_in failed old
@@ -227,16 +238,13 @@ module _ (keeps : FlushLeavesSound) (answers : FlushWritesAll) where
           ap (λ (d : Drawn). length d.handles) drawn ∙ well.handled
           ∙ ap (λ (n : ℕ). n - 1) (sym (ap (λ (b : Bool). depth_in b now.frames.scopes) failed ∙ deep_as old.own.failed old.own.frames.scopes now.frames.scopes long))
 
-  pub flush_led : (mapped : Mapped) (w : World) → IsInside mapped w → IsLed IsHealthy (IsFlushed mapped) (flush_whole w)
-  unfolding flush_whole
-  flush_led mapped w it =
-      led_then IsHealthy (IsInside mapped) (IsFlushed mapped) (checked orphan_fault) (λ u. flush) w (led_checked IsHealthy (IsInside mapped) orphan_fault w it.healthy (λ none. it))
-      (λ u inside. record { here = flush_healthy mapped (checked orphan_fault w).after inside; told = λ v is. flush_done mapped (checked orphan_fault w).after v inside is })
+  pub flush_led : (mapped : Mapped) (w : World) → IsInside mapped w → IsLed IsHealthy (IsFlushed mapped) (flush w)
+  flush_led mapped w it = record { here = flush_healthy mapped w it; told = λ u is. flush_done mapped w u it is }
 
   pub now_led : (w : World) → IsWhole w → IsHealthy w → IsLed IsHealthy (IsFlushed w.own.mapping) (flush_now w)
   unfolding flush_now
   now_led w whole healthy =
-      led_then IsHealthy (IsInside w.own.mapping) (IsFlushed w.own.mapping) enter (λ u. flush_whole) w (enter_led w whole healthy) (λ u inside. flush_led w.own.mapping (enter w).after inside)
+      led_then IsHealthy (IsInside w.own.mapping) (IsFlushed w.own.mapping) enter (λ u. flush) w (enter_led w whole healthy) (λ u inside. flush_led w.own.mapping (enter w).after inside)
 
   pub flush_now_healthy : KeepsHealthWhole flush_now
   flush_now_healthy w whole healthy = (now_led w whole healthy).here
@@ -270,10 +278,10 @@ module _ (keeps : FlushLeavesSound) (answers : FlushWritesAll) where
   flushing_led : {A : Type 0} (mapped : Mapped) (asked : World → Run World (Unit {0})) (act : World → Run World A) (w : World) → IsLed IsHealthy (IsInside mapped) (asked w)
       → ((v : World) → IsFlushed mapped v → IsHealthy (act v).after) → IsHealthy (flushing asked act w).after
   flushing_led mapped asked act w first later =
-      (led_then IsHealthy (IsInside mapped) IsHealthy asked (λ u. flush_whole >>= λ u. act) w first
+      (led_then IsHealthy (IsInside mapped) IsHealthy asked (λ u. flush >>= λ u. act) w first
       (λ u inside.
       let v : World = (asked w).after in
-      led_then IsHealthy (IsFlushed mapped) IsHealthy flush_whole (λ u. act) v (flush_led mapped v inside) (λ u done. acted act (flush_whole v).after (later (flush_whole v).after done)))).here
+      led_then IsHealthy (IsFlushed mapped) IsHealthy flush (λ u. act) v (flush_led mapped v inside) (λ u done. acted act (flush v).after (later (flush v).after done)))).here
 
   pub asked_led : (fault : SessionState → Option Refusal) (w : World) → IsWhole w → IsHealthy w → IsLed IsHealthy (IsInside w.own.mapping) ((enter >>= λ u. checked fault) w)
   asked_led fault w whole healthy =
@@ -351,13 +359,13 @@ module _ (keeps : FlushLeavesSound) (answers : FlushWritesAll) where
   pub bulk_healthy : (statement : Bulk) (w : World) → IsPlainButForKeys w.own.mapping.schema statement → IsWhole w → IsHealthy w → IsHealthy (acts.bulk statement w).after
   unfolding acts.bulk
   bulk_healthy statement w plain whole healthy =
-      (led_then IsHealthy (λ v. IsInside w.own.mapping v × IsPlainBulk w.own.mapping.schema statement) IsHealthy (statements.enter_bulk statement) (λ u. flush_whole >>= λ u. statements.bulk statement) w
+      (led_then IsHealthy (λ v. IsInside w.own.mapping v × IsPlainBulk w.own.mapping.schema statement) IsHealthy (statements.enter_bulk statement) (λ u. flush >>= λ u. statements.bulk statement) w
       (bulk_led statement w plain whole healthy)
       (λ u inside.
       let v : World = (statements.enter_bulk statement w).after in
-      led_then IsHealthy (IsFlushed w.own.mapping) IsHealthy flush_whole (λ u. statements.bulk statement) v (flush_led w.own.mapping v inside.0)
+      led_then IsHealthy (IsFlushed w.own.mapping) IsHealthy flush (λ u. statements.bulk statement) v (flush_led w.own.mapping v inside.0)
       (λ u done.
-      let x : World = (flush_whole v).after in
+      let x : World = (flush v).after in
       acted (statements.bulk statement) x (record {
         sound = bulk_sound statement x
             (record { inside = scope_open x.own.frames.scopes done.committable.inside; fit = done.fit }, subst (λ (m : Mapped). IsPlainBulk m.schema statement) (sym done.same) inside.1)

@@ -19,6 +19,7 @@ use Rattle.session_tables.specs.Steps.{change_all}
 use Rattle.session_tables.specs.declared.tables.TableChange.{TableChange}
 use Rattle.session_tables.specs.declared.tables.TableChange.TheVariants.{Create, Drop}
 use Rattle.session_objects.specs.ValueSteps.{cell_kept, given_fault, made_unless, set_inside, set_judged, set_valid, valid_made, value_invalid}
+use Rattle.session_laws.specs.Preparing.{PreparationsLeaveReread}
 use Rattle.session_laws.specs.Sound.{IsSound}
 use Rattle.session_laws.proofs.Sound.Beginning.{new_sound}
 use Rattle.session_laws.proofs.Sound.Ending.{close_sound}
@@ -26,6 +27,7 @@ use Rattle.session_laws.proofs.Sound.Objects.{delete_sound, made_there, set_soun
 use Rattle.session_laws.proofs.Sound.Programs.{checked_then, entered_then}
 use Rattle.session_laws.proofs.Sound.Rolling.{handle_sound, rollback_sound}
 use Rattle.session_laws.proofs.Calls.Adding.{add_sound}
+use Rattle.session_laws.proofs.Calls.Leaving.{expunge_sound, expunge_tidy}
 use Rattle.session_laws.proofs.Calls.Making.{make_sound}
 use Rattle.session_laws.proofs.LinkCalls.Linking.{always_once, change_sound}
 use Rattle.session_laws.proofs.TableCalls.Dropping.{drop_sound}
@@ -90,31 +92,32 @@ tables_healthy : (change : TableChange) (w : World) → IsHealthy w → IsHealth
 tables_healthy Create w healthy = record { sound = create_sound w healthy.tidy.ascending healthy.sound; tidy = (tables_tidy Create).kept w healthy.tidy }
 tables_healthy Drop w healthy = record { sound = drop_sound w healthy.tidy.ascending healthy.sound; tidy = (tables_tidy Drop).kept w healthy.tidy }
 
-module _ (keeps : FlushLeavesSound) (answers : FlushWritesAll) (rules : Rules) where
+module _ (reads : PreparationsLeaveReread) (keeps : FlushLeavesSound) (answers : FlushWritesAll) (rules : Rules) where
   pub call_healthy : (call : Call) (w : World) → IsWhole w → MayCall call w → IsHealthy w → IsHealthy (after_call rules call w)
   call_healthy (Call.Make class given) w whole may healthy = make_healthy rules class given w healthy
   call_healthy (Call.Add object) w whole may healthy =
       record { sound = add_sound object w (always_once w.own.mapping w.own.graph object may) healthy.sound; tidy = (add_tidy object).kept w healthy.tidy }
   call_healthy (Call.Set object attr value) w whole may healthy = record { sound = valid_sound rules object attr value w may healthy.sound; tidy = (valid_tidy rules object attr value).kept w healthy.tidy }
   call_healthy (Call.Delete object) w whole may healthy = record { sound = delete_sound object w may healthy.sound; tidy = (delete_tidy object).kept w healthy.tidy }
+  call_healthy (Call.Expunge object) w whole may healthy = record { sound = expunge_sound object w may healthy.sound; tidy = (expunge_tidy object).kept w healthy.tidy }
   call_healthy (Call.ChangeLink owner place call) w whole may healthy = record { sound = change_sound owner place call w whole.fit may.0 may.1 healthy.sound; tidy = (link_tidy owner place call).kept w healthy.tidy }
-  call_healthy Call.Flush w whole may healthy = flush_now_healthy keeps answers w whole healthy
-  call_healthy Call.Commit w whole may healthy = commit_healthy keeps answers w whole healthy
+  call_healthy Call.Flush w whole may healthy = flush_now_healthy reads keeps answers w whole healthy
+  call_healthy Call.Commit w whole may healthy = commit_healthy reads keeps answers w whole healthy
   call_healthy Call.Rollback w whole may healthy = record { sound = rollback_sound w healthy.sound; tidy = rollback_tidy w (ready w healthy) }
   call_healthy Call.Close w whole may healthy = record { sound = close_sound w healthy.sound; tidy = close_tidy.kept w healthy.tidy }
-  call_healthy Call.BeginNested w whole may healthy = nested_healthy keeps answers w whole healthy
-  call_healthy (Call.CommitHandle handle) w whole may healthy = handle_healthy keeps answers handle w whole healthy
+  call_healthy Call.BeginNested w whole may healthy = nested_healthy reads keeps answers w whole healthy
+  call_healthy (Call.CommitHandle handle) w whole may healthy = handle_healthy reads keeps answers handle w whole healthy
   call_healthy (Call.RollbackHandle handle) w whole may healthy = record { sound = handle_sound handle w whole.handled healthy.sound; tidy = handle_tidy handle w (ready w healthy) }
   call_healthy (Call.ChangeTables change) w whole may healthy = tables_healthy change w healthy
-  call_healthy (Call.Rows select) w whole may healthy = rows_healthy keeps answers select w whole healthy
-  call_healthy (Call.Write statement) w whole may healthy = bulk_healthy keeps answers statement w may whole healthy
+  call_healthy (Call.Rows select) w whole may healthy = rows_healthy reads keeps answers select w whole healthy
+  call_healthy (Call.Write statement) w whole may healthy = bulk_healthy reads keeps answers statement w may whole healthy
 
   calls_healthy : (calls : List Call) (w : World) → IsHealthy w → MayCallAll rules calls w → IsHealthy (after_calls rules calls w)
   calls_healthy [] w healthy may = healthy
   calls_healthy (call ∷ calls) w healthy may = calls_healthy calls (after_call rules call w) (call_healthy call w may.0 may.1 healthy) may.2
 
-pub calls_law : FlushLeavesSound → FlushWritesAll → CallsKeepHealth
-calls_law keeps answers rules calls w healthy may = calls_healthy keeps answers rules calls w healthy may
+pub calls_law : PreparationsLeaveReread → FlushLeavesSound → FlushWritesAll → CallsKeepHealth
+calls_law reads keeps answers rules calls w healthy may = calls_healthy reads keeps answers rules calls w healthy may
 
 pub one_law : CallsKeepHealth → CallsKeepOne
 one_law law rules calls w healthy may = (law rules calls w healthy may).sound.graph.one

@@ -17,12 +17,12 @@ use Rattle.object_arena.specs.Graph.{Graph}
 use Rattle.object_arena.specs.Graph as graphs
 use Rattle.object_arena.specs.Identity.{id_of_place}
 use Rattle.object_rows.specs.declared.prepared.Prepared.{Prepared}
+use Rattle.graph_flushed.specs.Fitting.{AreClearable}
 use Rattle.graph_flushed.specs.Flushed.{Written, deleted_object, graph_flushed, graph_written, key_of, new_object, object_flushed, object_in, staying_object, written_with}
 use Rattle.graph_flushed.proofs.FitSteps.{flushed_fits}
 use Rattle.graph_flushed.proofs.Flushes.Fitting.{flushes_fit}
 use Rattle.session_laws.specs.Graphs.{IsWellMapped}
 use Rattle.session_laws.proofs.OwnRows.Standing.{hierarchies}
-use Rattle.session_acts.proofs.Ready.{none_clearable}
 
 -- ---- the objects keep their classes
 
@@ -59,8 +59,8 @@ same_classes mapped old new same =
     ∙ ap (λ (all : List ClassId × List ClassId). map (root_of mapped) all.0) (sym same)
     ∙ map-map (root_of mapped) (λ (o : Object). o.class) new.objects
 
--- over a configured mapping, with links, classes of several tables and discriminators, where no link is cleared
-pub flushed_fit : (mapped : Mapped) (graph : Graph) (prepared : Prepared) (rows : RowChanges) (keys : List (List Value)) → IsWellMapped mapped → prepared.cleared ≡ [] → IsFit mapped graph → IsFit mapped (graph_flushed mapped prepared rows keys graph)
-flushed_fit mapped graph prepared rows keys well cleared fit =
+-- over a configured mapping, with links, classes of several tables and discriminators, where only links to one object are cleared
+pub flushed_fit : (mapped : Mapped) (graph : Graph) (prepared : Prepared) (rows : RowChanges) (keys : List (List Value)) → IsWellMapped mapped → AreClearable mapped graph prepared → IsFit mapped graph → IsFit mapped (graph_flushed mapped prepared rows keys graph)
+flushed_fit mapped graph prepared rows keys well clearable fit =
     flushed_fits mapped graph (graph_flushed mapped prepared rows keys graph) prepared rows keys (Ok tt) fit refl tt (classes_written (written_with mapped prepared rows keys graph))
-    (flushes_fit mapped graph prepared rows keys (hierarchies mapped well) well.related fit (none_clearable mapped graph prepared cleared))
+    (flushes_fit mapped graph prepared rows keys (hierarchies mapped well) well.related fit clearable)

@@ -1,10 +1,8 @@
--- Success of a flush leaves objects orderly.
+-- Success of a flush leaves objects with the keys that they hold.
 use Rattle.std.proofs.Common.{◌≡◌, ℕ, ◌+◌, ◌<◌, zero, suc, Bool, true, false, List, [], ◌∷◌, length, map, get_or, Option, None, Some, refl, sym, ap, ◌∙◌, subst, arith}
 use Rattle.std.specs.Prelude.{if◌then◌else◌, is_some}
 use Rattle.std.specs.List.{enumerate_from}
 use Rattle.std.proofs.lemmas.Bool.{and_from, and_parts}
-use Rattle.std.proofs.lemmas.List.{length-map}
-use Rattle.std.proofs.lemmas.List.FromFn.{length-enumerate_from}
 use Rattle.base_core.specs.declared.ids.AttrNo.{AttrNo}
 use Rattle.base_core.specs.declared.ids.ObjId.{ObjId}
 use Rattle.base_core.specs.declared.value.Value.{Value}
@@ -15,26 +13,19 @@ use Rattle.object_arena.specs.declared.object.State.{State}
 use Rattle.object_arena.specs.declared.object.State.TheVariants.{Transient, Pending, Persistent, Deleted, Detached}
 use Rattle.object_arena.specs.Graph.{expired_cell, has_identity, is_among, no_object, root_at}
 use Rattle.object_arena.specs.Identity.{id_of_place, is_other}
-use Rattle.graph_flushed.specs.Flushed.{Written, deleted_object, graph_written, held_or, kept_cell, kept_links, key_of, new_cell, new_object, object_flushed, object_in, prepared_links, staying_cell, staying_object, state_under, state_unless, value_come}
+use Rattle.graph_flushed.specs.Flushed.{Written, deleted_object, graph_written, held_or, kept_cell, key_of, new_cell, new_object, object_flushed, object_in, staying_cell, staying_object, state_under, state_unless, value_come}
 use Rattle.graph_flushed.specs.Keys.{new_holder}
 use Rattle.graph_flushed.proofs.ObjectSteps.{flushed_at, flushed_long}
 use Rattle.session_laws.specs.Sound.{EachObject}
-use Rattle.session_laws.specs.Health.Health.{IsOrderly, is_named, is_named_in}
+use Rattle.session_laws.specs.Health.Health.{HoldsItsKey, is_named, is_named_in}
 use Rattle.session_laws.proofs.Health.Named.{named_each}
-use Rattle.session_laws.proofs.Health.Objects.{IsEven, never_true, unmarked_orderly}
+use Rattle.session_laws.proofs.Health.Objects.{IsEven, never_true}
 
 -- ---- a cell
-
-abbrev IsKnown : Cell → Type 0
-IsKnown cell = is_some cell.base ≡ true
 
 kept_even : (value : Option Value) (cell : Cell) → IsEven cell → IsEven (held_or value cell)
 kept_even None cell even = even
 kept_even (Some value) cell even = refl
-
-kept_known : (value : Option Value) (cell : Cell) → IsKnown cell → IsKnown (held_or value cell)
-kept_known None cell known = known
-kept_known (Some value) cell known = refl
 
 -- ---- cells, each changed as its place says
 
@@ -44,20 +35,10 @@ each_even change (cell ∷ cells) n zero stays even = ap (λ (k : ℕ). (change 
 each_even change (cell ∷ cells) n (suc i) stays even =
     each_even change cells (n + 1) i (subst (λ (k : ℕ). (c : Cell) → IsEven c → IsEven (change (k, c))) (let e : n + suc i ≡ n + 1 + i = omega arith in e) stays) even
 
-each_known : (change : ℕ × Cell → Cell) (cells : List Cell) (n i : ℕ) → ((k : ℕ) (cell : Cell) → IsKnown cell → IsKnown (change (k, cell))) → i < length cells → IsKnown (get_or cells i expired_cell) → IsKnown (get_or (map change (enumerate_from n cells)) i expired_cell)
-each_known change [] n i stays less known = absurd (omega (arith, less))
-each_known change (cell ∷ cells) n zero stays less known = stays n cell known
-each_known change (cell ∷ cells) n (suc i) stays less known = each_known change cells (n + 1) i stays (omega (arith, less)) known
-
 all_even : (change : ℕ × Cell → Cell) (cells : List Cell) (n i : ℕ) → ((k : ℕ) (cell : Cell) → IsEven (change (k, cell))) → IsEven (get_or (map change (enumerate_from n cells)) i expired_cell)
 all_even change [] n i held = refl
 all_even change (cell ∷ cells) n zero held = held n cell
 all_even change (cell ∷ cells) n (suc i) held = all_even change cells (n + 1) i held
-
-all_known : (change : ℕ × Cell → Cell) (cells : List Cell) (n i : ℕ) → ((k : ℕ) (cell : Cell) → IsKnown (change (k, cell))) → i < length cells → IsKnown (get_or (map change (enumerate_from n cells)) i expired_cell)
-all_known change [] n i held less = absurd (omega (arith, less))
-all_known change (cell ∷ cells) n zero held less = held n cell
-all_known change (cell ∷ cells) n (suc i) held less = all_known change cells (n + 1) i held (omega (arith, less))
 
 gone_even : (cells : List Cell) (i : ℕ) → IsEven (get_or cells i expired_cell) → IsEven (get_or (map kept_cell cells) i expired_cell)
 gone_even [] i even = refl
@@ -74,56 +55,31 @@ under_named written object (Some key) = by (is_other object (new_holder written.
     by true = refl
     by false = refl
 
-module _ (written : Written) (object : ObjId) (it : Object) (orderly : IsOrderly written.mapping it) where
-  abbrev within : (change : ℕ × Cell → Cell) (attr : AttrNo) → attr.0 < length (map change (enumerate_from 0 it.cells)) → attr.0 < length it.cells
-  within change attr less = omega (arith, less, length-map (enumerate_from 0 it.cells) change, length-enumerate_from 0 it.cells)
-
-  links_left : it.marked ≡ true → prepared_links written.prepared object it.links ≡ []
-  links_left marked = ap (prepared_links written.prepared object) (orderly.unlinked marked)
-
-  new_orderly : (key : Option (List Value)) → IsOrderly written.mapping (new_object written object key it)
-  new_orderly None = record { keyed = λ named. absurd cc; known = orderly.known; unlinked = links_left }
-  new_orderly (Some key) = record {
-    keyed = λ named attr own. all_even (new_cell written object it.class key) it.cells 0 attr.0 (λ k cell. refl);
-    known = λ marked attr less. all_known (new_cell written object it.class key) it.cells 0 attr.0 (λ k cell. refl) (within (new_cell written object it.class key) attr less);
-    unlinked = λ marked. ap (kept_links written.prepared object) (orderly.unlinked marked);
-  }
+module _ (written : Written) (object : ObjId) (it : Object) (keyed : HoldsItsKey written.mapping it) where
+  new_keyed : (key : Option (List Value)) → HoldsItsKey written.mapping (new_object written object key it)
+  new_keyed None = λ named. absurd cc
+  new_keyed (Some key) = λ named attr own. all_even (new_cell written object it.class key) it.cells 0 attr.0 (λ k cell. refl)
 
   stays_even : (attr : AttrNo) → is_key_attribute written.mapping it.class attr ≡ true → (cell : Cell) → IsEven cell → IsEven (staying_cell written object it.class (0 + attr.0, cell))
   stays_even attr key cell even =
       let at : is_key_attribute written.mapping it.class (record { 0 = 0 + attr.0 }) ≡ true = ap (λ (n : ℕ). is_key_attribute written.mapping it.class (record { 0 = n })) (let e : 0 + attr.0 ≡ attr.0 = omega arith in e) ∙ key in
       subst (λ (b : Bool). IsEven (if b then kept_cell cell else held_or (value_come written object (attribute_of written.mapping it.class (record { 0 = 0 + attr.0 }))) (kept_cell cell))) (sym at) (kept_even cell.value cell even)
 
-  stays_known : (k : ℕ) (cell : Cell) → IsKnown cell → IsKnown (staying_cell written object it.class (k, cell))
-  stays_known k cell known = by (is_key_attribute written.mapping it.class (record { 0 = k }))
-    where
-      by : (b : Bool) → IsKnown (if b then kept_cell cell else held_or (value_come written object (attribute_of written.mapping it.class (record { 0 = k }))) (kept_cell cell))
-      by true = kept_known cell.value cell known
-      by false = kept_known (value_come written object (attribute_of written.mapping it.class (record { 0 = k }))) (kept_cell cell) (kept_known cell.value cell known)
-
   persists_named : it.state ≡ Persistent → is_some it.identity ≡ true → is_named it.state it.identity ≡ true
   persists_named at some = ap (λ (s : State). is_named s it.identity) at ∙ some
 
-  old_orderly : (gone : Bool) → it.state ≡ Persistent → IsOrderly written.mapping (if gone then deleted_object written object it else staying_object written object it)
-  old_orderly true at =
-      unmarked_orderly written.mapping (deleted_object written object it) refl
-      (λ named attr key. gone_even it.cells attr.0 (orderly.keyed (persists_named at named) attr key))
-  old_orderly false at = record {
-    keyed = λ named attr key.
-        each_even (staying_cell written object it.class) it.cells 0 attr.0 (stays_even attr key)
-        (orderly.keyed (persists_named at (and_parts (has_identity (state_under written object it.identity)) (is_some it.identity) named).1) attr key);
-    known = λ marked attr less.
-        let inside : attr.0 < length it.cells = within (staying_cell written object it.class) attr less in
-        each_known (staying_cell written object it.class) it.cells 0 attr.0 stays_known inside (orderly.known marked attr inside);
-    unlinked = λ marked. ap (kept_links written.prepared object) (orderly.unlinked marked);
-  }
+  old_keyed : (gone : Bool) → it.state ≡ Persistent → HoldsItsKey written.mapping (if gone then deleted_object written object it else staying_object written object it)
+  old_keyed true at = λ named attr key. gone_even it.cells attr.0 (keyed (persists_named at named) attr key)
+  old_keyed false at = λ named attr key.
+      each_even (staying_cell written object it.class) it.cells 0 attr.0 (stays_even attr key)
+      (keyed (persists_named at (and_parts (has_identity (state_under written object it.identity)) (is_some it.identity) named).1) attr key)
 
-  in_orderly : (state : State) → it.state ≡ state → IsOrderly written.mapping (object_in state written object it)
-  in_orderly Transient at = record { keyed = orderly.keyed; known = orderly.known; unlinked = links_left }
-  in_orderly Pending at = new_orderly (key_of written object)
-  in_orderly Persistent at = old_orderly (is_among written.prepared.deleted object) at
-  in_orderly Deleted at = record { keyed = orderly.keyed; known = orderly.known; unlinked = links_left }
-  in_orderly Detached at = record { keyed = orderly.keyed; known = orderly.known; unlinked = links_left }
+  in_keyed : (state : State) → it.state ≡ state → HoldsItsKey written.mapping (object_in state written object it)
+  in_keyed Transient at = keyed
+  in_keyed Pending at = new_keyed (key_of written object)
+  in_keyed Persistent at = old_keyed (is_among written.prepared.deleted object) at
+  in_keyed Deleted at = keyed
+  in_keyed Detached at = keyed
 
 -- who had an identity has one then
 module _ (written : Written) (object : ObjId) (it : Object) where
@@ -141,11 +97,11 @@ module _ (written : Written) (object : ObjId) (it : Object) where
 
 -- ---- the objects of a session
 
-pub flushed_orderly : (written : Written) → EachObject (IsOrderly written.mapping) written.graph → EachObject (IsOrderly written.mapping) (graph_written written)
-flushed_orderly written all place less =
+pub flushed_keyed : (written : Written) → EachObject (HoldsItsKey written.mapping) written.graph → EachObject (HoldsItsKey written.mapping) (graph_written written)
+flushed_keyed written all place less =
     let inside : place < length written.graph.objects = omega (arith, less, flushed_long written) in
     let it : Object = get_or written.graph.objects place no_object in
-    subst (IsOrderly written.mapping) (sym (flushed_at written place inside)) (in_orderly written (id_of_place place) it (all place inside) it.state refl)
+    subst (HoldsItsKey written.mapping) (sym (flushed_at written place inside)) (in_keyed written (id_of_place place) it (all place inside) it.state refl)
 
 pub flushed_named : (written : Written) (place : ℕ) → is_named_in written.graph place ≡ true → is_named_in (graph_written written) place ≡ true
 flushed_named written =

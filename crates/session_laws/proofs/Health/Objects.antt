@@ -1,35 +1,28 @@
--- Objects stay orderly as their cells, their marks and their states change.
-use Rattle.std.proofs.Common.{◌≡◌, ◌≢◌, ℕ, ◌+◌, ◌<◌, suc, Bool, true, false, not, ◌&&◌, ◌||◌, List, [], ◌∷◌, length, get_or, Option, None, Some, ⊎_elim, refl, sym, ap, ◌∙◌, arith}
-use Rattle.std.specs.Prelude.{if◌then◌else◌, is_some, nat_lt}
-use Rattle.std.specs.List.{list_all}
+-- Objects hold their keys as their cells and their states change.
+use Rattle.std.proofs.Common.{◌≡◌, ◌≢◌, ℕ, ◌+◌, suc, Bool, true, false, not, ◌&&◌, List, [], ◌∷◌, get_or, Option, None, Some, ⊎_elim, refl, sym, ap, ◌∙◌, arith}
+use Rattle.std.specs.Prelude.{if◌then◌else◌, is_some}
 use Rattle.std.proofs.lemmas.Bool.{and_from, and_parts, cases_eq}
-use Rattle.std.proofs.lemmas.Bool.Decides.{nat_tests}
 use Rattle.std.proofs.lemmas.List.{get_or-set_other}
-use Rattle.std.proofs.lemmas.List.Sums.{AllPass-from_list_all}
 use Rattle.base_core.specs.declared.ids.AttrNo.{AttrNo}
 use Rattle.base_core.specs.declared.ids.ClassId.{ClassId}
 use Rattle.base_core.specs.declared.refusal.Refusal.{Refusal}
-use Rattle.base_core.specs.declared.refusal.Refusal.TheVariants.{InvalidRequestError, NotBuilt}
-use Rattle.base_core.specs.declared.refusal.RequestKind.TheVariants.{KeyChange, NotPersistent}
+use Rattle.base_core.specs.declared.refusal.Refusal.TheVariants.{InvalidRequestError}
+use Rattle.base_core.specs.declared.refusal.RequestKind.TheVariants.{KeyChange}
 use Rattle.base_core.specs.declared.value.Value.{Value}
 use Rattle.class_mapping.specs.Mapped.{Mapped, is_key_attribute}
 use Rattle.object_arena.specs.declared.object.Cell.{Cell}
-use Rattle.object_arena.specs.declared.object.Link.{Link}
 use Rattle.object_arena.specs.declared.object.Object.{Object}
 use Rattle.object_arena.specs.declared.object.State.{State}
 use Rattle.object_arena.specs.declared.object.State.TheVariants.{Transient, Pending, Persistent, Deleted, Detached}
-use Rattle.object_arena.specs.Graph.{cell_in, cell_put, expired_cell, expired_object, has_identity, is_persistent, key_fault, kept_identity, put_back_object}
+use Rattle.object_arena.specs.Graph.{cell_in, cell_put, expired_cell, expired_object, has_identity, key_fault, kept_identity, put_back_object}
 use Rattle.session_parts.specs.Ends.{left_state, object_committed_in, object_left}
-use Rattle.session_scopes.specs.Changes.{delete_fault, has_links, is_known}
 use Rattle.session_scopes.specs.Making.{object_with, unwritten_cell}
 use Rattle.session_objects.specs.Taking.{changed_values, is_value_changed, object_taken, returned_object, with_changed}
 use Rattle.session_objects.proofs.TakingLemmas.{identity_left, state_left}
 use Rattle.session_laws.proofs.Sound.Everyone.{expired_cells}
-use Rattle.session_laws.proofs.Sound.Objects.{base_kept, cells_long}
-use Rattle.session_laws.proofs.Calls.Adding.{marked_left}
 use Rattle.session_laws.proofs.Calls.Rereading.{both_false}
 use Rattle.object_records.proofs.Exact.{value_itself}
-use Rattle.session_laws.specs.Health.Health.{HoldsItsKey, IsOrderly, is_named}
+use Rattle.session_laws.specs.Health.Health.{HoldsItsKey, is_named}
 
 -- the cell holds what its row holds, or nothing is known of it
 abbrev pub IsEven : Cell → Type 0
@@ -47,89 +40,49 @@ passes false e h = refl
 beside : (o : Object) (attr other : AttrNo) (cell : Cell) → other.0 ≢ attr.0 → cell_in (cell_put o attr cell) other ≡ cell_in o other
 beside o attr other cell apart = get_or-set_other o.cells attr.0 other.0 cell expired_cell apart
 
-pub set_orderly : (mapped : Mapped) (o : Object) (attr : AttrNo) (value : Value) → key_fault mapped o attr ≡ None → IsOrderly mapped o → IsOrderly mapped (cell_put o attr (record (cell_in o attr) { value = Some value }))
-set_orderly mapped o attr value free orderly =
+pub set_keyed : (mapped : Mapped) (o : Object) (attr : AttrNo) (value : Value) → key_fault mapped o attr ≡ None → HoldsItsKey mapped o → HoldsItsKey mapped (cell_put o attr (record (cell_in o attr) { value = Some value }))
+set_keyed mapped o attr value free keyed = λ named other key.
     let put : Cell = record (cell_in o attr) { value = Some value } in
-    record {
-      keyed = λ named other key.
-          let some : is_some o.identity ≡ true = (and_parts (has_identity o.state) (is_some o.identity) named).1 in
-          let out : is_key_attribute mapped o.class attr ≡ false = both_false (is_some o.identity) (is_key_attribute mapped o.class attr) (passes (is_some o.identity && is_key_attribute mapped o.class attr) (InvalidRequestError KeyChange) free) some in
-          ⊎_elim
-          (λ (same : other.0 ≡ attr.0). never_true (is_key_attribute mapped o.class attr) out (sym (ap (λ (n : ℕ). is_key_attribute mapped o.class (record { 0 = n })) same) ∙ key))
-          (λ (apart : other.0 ≢ attr.0).
-          let same : cell_in (cell_put o attr put) other ≡ cell_in o other = beside o attr other put apart in
-          ap (λ (c : Cell). c.value) same ∙ orderly.keyed named other key ∙ sym (ap (λ (c : Cell). c.base) same))
-          (cases_eq other.0 attr.0);
-      known = λ marked other less.
-          let within : other.0 < length o.cells = omega (arith, less, cells_long o attr put) in
-          ap (λ (b : Option Value). is_some b) (base_kept o attr other value within) ∙ orderly.known marked other within;
-      unlinked = orderly.unlinked;
-    }
-
--- ---- a delete mark
-
-all_known : (persists all linked : Bool) (first : Refusal) → (if not persists then Some first else if not all || linked then Some NotBuilt else None) ≡ None → all ≡ true
-all_known false all linked first none = absurd cc
-all_known true true linked first none = refl
-all_known true false linked first none = absurd cc
-
-none_linked : (persists all linked : Bool) (first : Refusal) → (if not persists then Some first else if not all || linked then Some NotBuilt else None) ≡ None → linked ≡ false
-none_linked false all linked first none = absurd cc
-none_linked true all false first none = refl
-none_linked true true true first none = absurd cc
-none_linked true false true first none = absurd cc
-
-no_links : (links : List Link) → nat_lt 0 (length links) ≡ false → links ≡ []
-no_links [] none = refl
-no_links (link ∷ links) none = let short : length (link ∷ links) ≡ 0 = grind (arith, nat_tests) in absurd (omega (arith, short))
-
-pub mark_orderly : (mapped : Mapped) (o : Object) → delete_fault o ≡ None → IsOrderly mapped o → IsOrderly mapped (record o { marked = true })
-mark_orderly mapped o none orderly =
-    let all : list_all is_known o.cells ≡ true = all_known (is_persistent o.state) (list_all is_known o.cells) (has_links o) (InvalidRequestError NotPersistent) none in
-    record {
-      keyed = orderly.keyed;
-      known = λ marked attr less.
-          let cell : Cell = get_or o.cells attr.0 expired_cell in
-          (and_parts (is_some cell.value) (is_some cell.base) (AllPass-from_list_all is_known o.cells all attr.0 expired_cell less)).1;
-      unlinked = λ marked. no_links o.links (none_linked (is_persistent o.state) (list_all is_known o.cells) (has_links o) (InvalidRequestError NotPersistent) none);
-    }
-
--- an object without a mark
-pub unmarked_orderly : (mapped : Mapped) (o : Object) → o.marked ≡ false → HoldsItsKey mapped o → IsOrderly mapped o
-unmarked_orderly mapped o unmarked keyed = record { keyed = keyed; known = λ marked. never_true o.marked unmarked marked; unlinked = λ marked. never_true o.marked unmarked marked }
+    let some : is_some o.identity ≡ true = (and_parts (has_identity o.state) (is_some o.identity) named).1 in
+    let out : is_key_attribute mapped o.class attr ≡ false = both_false (is_some o.identity) (is_key_attribute mapped o.class attr) (passes (is_some o.identity && is_key_attribute mapped o.class attr) (InvalidRequestError KeyChange) free) some in
+    ⊎_elim
+    (λ (same : other.0 ≡ attr.0). never_true (is_key_attribute mapped o.class attr) out (sym (ap (λ (n : ℕ). is_key_attribute mapped o.class (record { 0 = n })) same) ∙ key))
+    (λ (apart : other.0 ≢ attr.0).
+    let same : cell_in (cell_put o attr put) other ≡ cell_in o other = beside o attr other put apart in
+    ap (λ (c : Cell). c.value) same ∙ keyed named other key ∙ sym (ap (λ (c : Cell). c.base) same))
+    (cases_eq other.0 attr.0)
 
 -- ---- an object that is to be read again
 
 expired_even : (o : Object) (attr : AttrNo) → IsEven (cell_in (expired_object o) attr)
 expired_even o attr = ap (λ (c : Cell). c.value) (expired_cells o.cells attr.0) ∙ sym (ap (λ (c : Cell). c.base) (expired_cells o.cells attr.0))
 
-pub expired_orderly : (mapped : Mapped) (o : Object) → o.marked ≡ false → IsOrderly mapped (expired_object o)
-expired_orderly mapped o unmarked = unmarked_orderly mapped (expired_object o) unmarked (λ named attr key. expired_even o attr)
+pub expired_keyed : (mapped : Mapped) (o : Object) → HoldsItsKey mapped (expired_object o)
+expired_keyed mapped o = λ named attr key. expired_even o attr
 
-pub committed_orderly : (mapped : Mapped) (state : State) (o : Object) → o.state ≡ state → o.marked ≡ false → IsOrderly mapped o → IsOrderly mapped (object_committed_in state o)
-committed_orderly mapped Transient o at unmarked orderly = orderly
-committed_orderly mapped Pending o at unmarked orderly = orderly
-committed_orderly mapped Persistent o at unmarked orderly = expired_orderly mapped o unmarked
-committed_orderly mapped Deleted o at unmarked orderly =
-    unmarked_orderly mapped (record o { state = Detached }) unmarked (λ named attr key. orderly.keyed (ap (λ (s : State). is_named s o.identity) at ∙ named) attr key)
-committed_orderly mapped Detached o at unmarked orderly = orderly
+pub committed_keyed : (mapped : Mapped) (state : State) (o : Object) → o.state ≡ state → HoldsItsKey mapped o → HoldsItsKey mapped (object_committed_in state o)
+committed_keyed mapped Transient o at keyed = keyed
+committed_keyed mapped Pending o at keyed = keyed
+committed_keyed mapped Persistent o at keyed = expired_keyed mapped o
+committed_keyed mapped Deleted o at keyed = λ named attr key. keyed (ap (λ (s : State). is_named s o.identity) at ∙ named) attr key
+committed_keyed mapped Detached o at keyed = keyed
 
 -- ---- an object that has left the session
 
-left_named : (state : State) (identity : Option (List Value)) → is_named (left_state state) (kept_identity (left_state state) identity) ≡ is_named state identity
+pub left_named : (state : State) (identity : Option (List Value)) → is_named (left_state state) (kept_identity (left_state state) identity) ≡ is_named state identity
 left_named Transient identity = refl
 left_named Pending identity = refl
 left_named Persistent identity = refl
 left_named Deleted identity = refl
 left_named Detached identity = refl
 
-pub left_orderly : (mapped : Mapped) (o : Object) → IsOrderly mapped o → IsOrderly mapped (object_left o)
-left_orderly mapped o orderly = unmarked_orderly mapped (object_left o) refl (λ named attr key. orderly.keyed (sym (left_named o.state o.identity) ∙ named) attr key)
+pub left_keyed : (mapped : Mapped) (o : Object) → HoldsItsKey mapped o → HoldsItsKey mapped (object_left o)
+left_keyed mapped o keyed = λ named attr key. keyed (sym (left_named o.state o.identity) ∙ named) attr key
 
 -- ---- an object that is made
 
-pub made_orderly : (mapped : Mapped) (o : Object) → o.state ≡ Transient → o.marked ≡ false → IsOrderly mapped o
-made_orderly mapped o transient unmarked = unmarked_orderly mapped o unmarked (λ named. never_true (is_named o.state o.identity) (ap (λ (s : State). is_named s o.identity) transient) named)
+pub made_keyed : (mapped : Mapped) (o : Object) → o.state ≡ Transient → HoldsItsKey mapped o
+made_keyed mapped o transient = λ named. never_true (is_named o.state o.identity) (ap (λ (s : State). is_named s o.identity) transient) named
 
 -- ---- an object that comes in
 
@@ -156,26 +109,25 @@ pub class_left : (o : Object) (given : List (AttrNo × Value)) → (object_with 
 class_left o [] = refl
 class_left o (one ∷ others) = class_left (cell_put o one.0 (unwritten_cell one.1)) others
 
-returned_keyed : (mapped : Mapped) (o : Object) → o.state ≡ Detached → IsOrderly mapped o → HoldsItsKey mapped (returned_object o)
-returned_keyed mapped o at orderly = λ named attr key.
+returned_keyed : (mapped : Mapped) (o : Object) → o.state ≡ Detached → HoldsItsKey mapped o → HoldsItsKey mapped (returned_object o)
+returned_keyed mapped o at keyed = λ named attr key.
     let begun : Object = expired_object (record o { state = Persistent; marked = false }) in
     let values : List (AttrNo × Value) = changed_values 0 o.cells in
     let some : is_some o.identity ≡ true = ap (λ (k : Option (List Value)). is_some k) (sym (identity_left begun values)) ∙ (and_parts (has_identity (returned_object o).state) (is_some (returned_object o).identity) named).1 in
     let own : is_named o.state o.identity ≡ true = ap (λ (s : State). is_named s o.identity) at ∙ some in
-    let even : IsEven (cell_in o attr) = orderly.keyed own attr (ap (λ (c : ClassId). is_key_attribute mapped c attr) (sym (class_left begun values)) ∙ key) in
+    let even : IsEven (cell_in o attr) = keyed own attr (ap (λ (c : ClassId). is_key_attribute mapped c attr) (sym (class_left begun values)) ∙ key) in
     let same : cell_in (returned_object o) attr ≡ cell_in begun attr =
     values_kept o.cells 0 begun attr (λ k at.
     let here : attr.0 ≡ k = omega (arith, at) in
     sym (ap (λ (n : ℕ). (get_or o.cells n expired_cell).value) here) ∙ even ∙ ap (λ (n : ℕ). (get_or o.cells n expired_cell).base) here) in
     ap (λ (c : Cell). c.value) same ∙ expired_even (record o { state = Persistent; marked = false }) attr ∙ sym (ap (λ (c : Cell). c.base) same)
 
-pub taken_orderly : (mapped : Mapped) (state : State) (number : ℕ) (o : Object) → o.state ≡ state → IsOrderly mapped o → IsOrderly mapped (object_taken state number o)
-taken_orderly mapped Transient number o at orderly = record { keyed = λ named. absurd cc; known = orderly.known; unlinked = orderly.unlinked }
-taken_orderly mapped Pending number o at orderly = orderly
-taken_orderly mapped Persistent number o at orderly = orderly
-taken_orderly mapped Deleted number o at orderly = orderly
-taken_orderly mapped Detached number o at orderly =
-    unmarked_orderly mapped (returned_object o) (marked_left (expired_object (record o { state = Persistent; marked = false })) (changed_values 0 o.cells)) (returned_keyed mapped o at orderly)
+pub taken_keyed : (mapped : Mapped) (state : State) (number : ℕ) (o : Object) → o.state ≡ state → HoldsItsKey mapped o → HoldsItsKey mapped (object_taken state number o)
+taken_keyed mapped Transient number o at keyed = λ named. absurd cc
+taken_keyed mapped Pending number o at keyed = keyed
+taken_keyed mapped Persistent number o at keyed = keyed
+taken_keyed mapped Deleted number o at keyed = keyed
+taken_keyed mapped Detached number o at keyed = returned_keyed mapped o at keyed
 
 -- who had an identity has it then
 pub taken_named : (state : State) (number : ℕ) (o : Object) → o.state ≡ state → is_named o.state o.identity ≡ true → is_named (object_taken state number o).state (object_taken state number o).identity ≡ true

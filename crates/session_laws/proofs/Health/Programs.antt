@@ -50,7 +50,7 @@ use Rattle.session_laws.specs.Sound.{EachObject, IsSettled}
 use Rattle.session_laws.proofs.Sound.Everyone.{each_changed}
 use Rattle.session_laws.specs.Health.Health.{IsOrderlySession, IsTidy}
 use Rattle.session_laws.proofs.Health.Restored.{restored_orderly}
-use Rattle.session_laws.proofs.Health.Sessions.{added_orderly, begun_orderly, closed_orderly, committed_session, linked_orderly, marked_orderly, nested_orderly, object_orderly, released_orderly, reread_orderly, reread_settled, rolled_orderly, value_orderly}
+use Rattle.session_laws.proofs.Health.Sessions.{added_orderly, begun_orderly, closed_orderly, committed_orderly, linked_orderly, marked_orderly, nested_orderly, object_orderly, released_orderly, reread_orderly, reread_settled, rolled_orderly, value_orderly}
 
 -- ---- how programs are put together
 
@@ -304,7 +304,7 @@ unfolding commit_transaction
 transaction_clean =
     clean_then (on_store with_notes call.commit) (λ u. changes session_committed) (clean_store call.commit (keeps_commit AreAscending))
     (λ u.
-    clean_changes session_committed committed_session
+    clean_changes session_committed (λ own settled. committed_orderly own)
     (λ own settled. each_changed IsSettled IsSettled (λ o. object_committed_in o.state o) own.graph settled (λ o one. committed_settled o.state o one)))
 
 pub commit_clean : Keeps IsClean commit_whole
@@ -323,4 +323,4 @@ unfolding statements.bulk
 bulk_clean statement =
     let table : TableId = table_of statement in
     clean_then (statements.send_bulk statement) (λ count. (changes (session_reread table) >>= λ u. give count)) (send_clean statement)
-    (λ count. clean_then (changes (session_reread table)) (λ u. give count) (clean_changes (session_reread table) (reread_orderly table) (reread_settled table)) (λ u. keeps_give IsClean count))
+    (λ count. clean_then (changes (session_reread table)) (λ u. give count) (clean_changes (session_reread table) (λ own settled. reread_orderly table own) (reread_settled table)) (λ u. keeps_give IsClean count))

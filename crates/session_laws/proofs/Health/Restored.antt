@@ -1,4 +1,4 @@
--- A rollback leaves objects orderly.
+-- A rollback leaves objects with the keys that they hold.
 use Rattle.std.proofs.Common.{◌≡◌, ℕ, ◌-◌, ◌<◌, Bool, true, false, not, List, drop, length, get_or, Option, None, Some, refl, sym, ap, ◌∙◌, subst, arith}
 use Rattle.std.specs.Prelude.{if◌then◌else◌, is_some, nat_lt}
 use Rattle.std.proofs.lemmas.Bool.{and_parts}
@@ -24,10 +24,10 @@ use Rattle.session_scopes.specs.SessionState.{SessionState}
 use Rattle.session_scopes.proofs.SessionLemmas.{around_scopes}
 use Rattle.session_laws.specs.Sound.{EachObject}
 use Rattle.session_laws.proofs.Sound.Everyone.{expired_cells}
-use Rattle.session_laws.proofs.Sound.Restoring.{again, again_at, again_unmarked, each_again, lost, object, start, want}
-use Rattle.session_laws.specs.Health.Health.{AreNamedSince, HoldsItsKey, IsOrderly, IsOrderlySession, is_named, is_named_in, stands_named, was_named}
+use Rattle.session_laws.proofs.Sound.Restoring.{again, again_at, each_again, lost, object, start, want}
+use Rattle.session_laws.specs.Health.Health.{AreNamedSince, HoldsItsKey, IsOrderlySession, is_named, is_named_in, stands_named, was_named}
 use Rattle.session_laws.proofs.Health.Named.{named_at, named_from, named_inside, named_more}
-use Rattle.session_laws.proofs.Health.Objects.{IsEven, back_cells, back_class, never_true, unmarked_orderly}
+use Rattle.session_laws.proofs.Health.Objects.{IsEven, back_cells, back_class, never_true}
 
 -- ---- an object that may be read again
 
@@ -102,8 +102,8 @@ module _ (depth : ℕ) (frames : Framed) (graph : Graph) where
       (since_named (trace_in frames.traces place).loaded o.state o.identity (identified place less)) is
 
   -- an object that stands with an identity then has its key as it had it
-  again_keyed : (mapped : Mapped) → AreNamedSince (is_named_in graph) frames.scopes → EachObject (λ (o : Object). is_identified o ≡ true) graph → EachObject (IsOrderly mapped) graph → (place : ℕ) → place < length graph.objects → HoldsItsKey mapped (again depth frames graph place)
-  again_keyed mapped named identified orderly place less = λ stands attr key.
+  again_keyed : (mapped : Mapped) → AreNamedSince (is_named_in graph) frames.scopes → EachObject (λ (o : Object). is_identified o ≡ true) graph → EachObject (HoldsItsKey mapped) graph → (place : ℕ) → place < length graph.objects → HoldsItsKey mapped (again depth frames graph place)
+  again_keyed mapped named identified keyed place less = λ stands attr key.
       let o : Object = object depth frames graph place in
       let wanted : Standing = want depth frames graph place in
       let state : State = contested_state (lost depth frames graph place) wanted.state in
@@ -111,11 +111,8 @@ module _ (depth : ℕ) (frames : Framed) (graph : Graph) where
       let there : stands_named wanted ≡ true = sym (again_stands place) ∙ stands in
       let has : has_identity state ≡ true = (and_parts (has_identity state) (is_some wanted.identity) (contested_named (lost depth frames graph place) wanted ∙ there)).0 in
       let class : (again depth frames graph place).class ≡ o.class = where_class _ back ∙ back_class o state wanted.identity in
-      let even : IsEven (cell_in o attr) = (orderly place less).keyed (want_named named identified place less there) attr (ap (λ (c : ClassId). is_key_attribute mapped c attr) (sym class) ∙ key) in
+      let even : IsEven (cell_in o attr) = keyed place less (want_named named identified place less there) attr (ap (λ (c : ClassId). is_key_attribute mapped c attr) (sym class) ∙ key) in
       where_even _ back attr (subst (λ (cells : List Cell). IsEven (get_or cells attr.0 expired_cell)) (sym (back_cells o state wanted.identity has)) even)
-
-  again_orderly : (mapped : Mapped) → AreNamedSince (is_named_in graph) frames.scopes → EachObject (λ (o : Object). is_identified o ≡ true) graph → EachObject (IsOrderly mapped) graph → (place : ℕ) → place < length graph.objects → IsOrderly mapped (again depth frames graph place)
-  again_orderly mapped named identified orderly place less = unmarked_orderly mapped (again depth frames graph place) (again_unmarked depth frames graph place) (again_keyed mapped named identified orderly place less)
 
   -- who had an identity at the start of the scope has it again
   want_start : (place : ℕ) (within : Bool) → nat_lt place (length (start depth frames graph).standings) ≡ within → was_named (start depth frames graph) place ≡ true → stands_named (want depth frames graph place) ≡ true
@@ -143,6 +140,6 @@ module _ (depth : ℕ) (frames : Framed) (graph : Graph) where
 pub restored_orderly : (depth : ℕ) (own : SessionState) → EachObject (λ (o : Object). is_identified o ≡ true) own.graph → IsOrderlySession own → IsOrderlySession (session_restored depth own)
 restored_orderly depth own identified orderly = record {
   well = orderly.well;
-  objects = each_again depth own.frames own.graph (IsOrderly own.mapping) (again_orderly depth own.frames own.graph own.mapping orderly.named identified orderly.objects);
+  objects = each_again depth own.frames own.graph (HoldsItsKey own.mapping) (again_keyed depth own.frames own.graph own.mapping orderly.named identified orderly.objects);
   named = around_named depth own.frames own.graph orderly.named;
 }

@@ -13,7 +13,6 @@ use Rattle.base_core.specs.declared.refusal.Refusal.TheVariants.{LimitReached}
 use Rattle.base_core.specs.declared.value.Value.{Value}
 use Rattle.schema_core.specs.declared.changes.RowChanges.{RowChanges}
 use Rattle.class_mapping.specs.Mapped.{Mapped}
-use Rattle.object_arena.specs.declared.object.Link.{Link}
 use Rattle.object_arena.specs.declared.object.Object.{Object}
 use Rattle.object_arena.specs.Graph.{Graph, cell_in, cell_put, fresh_object, key_fault, make, no_object, object_at, object_limit, place_of, with_fresh, with_object, with_value}
 use Rattle.object_rows.specs.declared.prepared.Prepared.{Prepared}
@@ -36,26 +35,25 @@ use Rattle.session_acts.specs.Flush.{session_flushed}
 use Rattle.session_laws.specs.Sound.{EachObject, IsSettled}
 use Rattle.session_laws.proofs.Sound.Everyone.{changed_at, each_changed}
 use Rattle.session_laws.proofs.Sound.Touches.{between_scopes}
-use Rattle.session_laws.proofs.Calls.Adding.{marked_left}
 use Rattle.session_laws.proofs.Calls.Making.{each_made, made, made_before}
-use Rattle.session_laws.specs.Health.Health.{AreNamedSince, IsOrderly, IsOrderlySession, is_named, is_named_in}
-use Rattle.session_laws.proofs.Health.Flushed.{flushed_named, flushed_orderly}
+use Rattle.session_laws.specs.Health.Health.{AreNamedSince, HoldsItsKey, IsOrderlySession, is_named, is_named_in}
+use Rattle.session_laws.proofs.Health.Flushed.{flushed_keyed, flushed_named}
 use Rattle.session_laws.proofs.Health.Named.{begun_named, each_with, named_each, named_inside, named_left, named_more, named_with}
-use Rattle.session_laws.proofs.Health.Objects.{committed_orderly, expired_orderly, left_orderly, made_orderly, mark_orderly, set_orderly, taken_named, taken_orderly}
+use Rattle.session_laws.proofs.Health.Objects.{committed_keyed, expired_keyed, left_keyed, made_keyed, set_keyed, taken_keyed, taken_named}
 
 -- ---- other objects, touched where they come to differ
 
-pub changed_orderly : (graph : Graph) (own : SessionState) → EachObject (IsOrderly own.mapping) graph → ((place : ℕ) → is_named_in own.graph place ≡ true → is_named_in graph place ≡ true) → IsOrderlySession own → IsOrderlySession (with_graph graph own)
+pub changed_orderly : (graph : Graph) (own : SessionState) → EachObject (HoldsItsKey own.mapping) graph → ((place : ℕ) → is_named_in own.graph place ≡ true → is_named_in graph place ≡ true) → IsOrderlySession own → IsOrderlySession (with_graph graph own)
 changed_orderly graph own objects stays orderly = record {
   well = orderly.well;
   objects = objects;
   named = subst (AreNamedSince (is_named_in graph)) (sym (between_scopes own.graph graph own.frames)) (named_more (is_named_in own.graph) (is_named_in graph) own.frames.scopes stays orderly.named);
 }
 
-pub put_orderly : (object : ObjId) (new : Object) (own : SessionState) → (place_of object < length own.graph.objects → IsOrderly own.mapping new)
+pub put_orderly : (object : ObjId) (new : Object) (own : SessionState) → (place_of object < length own.graph.objects → HoldsItsKey own.mapping new)
     → (is_named (object_at own.graph object).state (object_at own.graph object).identity ≡ true → is_named new.state new.identity ≡ true) → IsOrderlySession own → IsOrderlySession (with_graph (with_object own.graph object new) own)
 put_orderly object new own one stays orderly =
-    changed_orderly (with_object own.graph object new) own (each_with (IsOrderly own.mapping) own.graph object new orderly.objects one) (named_with own.graph object new stays) orderly
+    changed_orderly (with_object own.graph object new) own (each_with (HoldsItsKey own.mapping) own.graph object new orderly.objects one) (named_with own.graph object new stays) orderly
 
 -- ---- one object
 
@@ -68,14 +66,15 @@ unfolding value_put
 value_orderly object attr value own orderly =
     let o : Object = object_at own.graph object in
     unless_orderly (key_fault own.mapping o attr) (with_value own.graph object attr value) own orderly
-    (λ none. put_orderly object (cell_put o attr (record (cell_in o attr) { value = Some value })) own (λ less. set_orderly own.mapping o attr value none (orderly.objects (place_of object) less)) (λ named. named) orderly)
+    (λ none. put_orderly object (cell_put o attr (record (cell_in o attr) { value = Some value })) own (λ less. set_keyed own.mapping o attr value none (orderly.objects (place_of object) less)) (λ named. named) orderly)
 
+-- a delete mark tells nothing of its row
 pub marked_orderly : (object : ObjId) (own : SessionState) → IsOrderlySession own → IsOrderlySession (deletion_marked object own).after
 unfolding deletion_marked
 marked_orderly object own orderly =
     let o : Object = object_at own.graph object in
     unless_orderly (delete_fault o) (with_object own.graph object (record o { marked = true })) own orderly
-    (λ none. put_orderly object (record o { marked = true }) own (λ less. mark_orderly own.mapping o none (orderly.objects (place_of object) less)) (λ named. named) orderly)
+    (λ none. put_orderly object (record o { marked = true }) own (orderly.objects (place_of object)) (λ named. named) orderly)
 
 -- ---- an object is made
 
@@ -85,7 +84,7 @@ new_orderly class given own orderly =
     let fresh : Object = fresh_object own.mapping class in
     record {
       well = orderly.well;
-      objects = each_made own.mapping class given own.graph (IsOrderly own.mapping) orderly.objects (made_orderly own.mapping (object_with fresh given) (state_left fresh given) (marked_left fresh given));
+      objects = each_made own.mapping class given own.graph (HoldsItsKey own.mapping) orderly.objects (made_keyed own.mapping (object_with fresh given) (state_left fresh given));
       named = named_more (is_named_in own.graph) (is_named_in now) own.frames.scopes
           (λ place is. ap (λ (o : Object). is_named o.state o.identity) (made_before own.mapping class given own.graph place (named_inside own.graph place is)) ∙ is) orderly.named;
     }
@@ -106,7 +105,7 @@ one_taken : (object : ObjId) (own : SessionState) → IsOrderlySession own → I
 one_taken object own orderly =
     let o : Object = object_at own.graph object in
     let number : ℕ = one_more own.added in
-    put_orderly object (taken_under number o) (record own { added = added_then o.state own.added }) (λ less. taken_orderly own.mapping o.state number o refl (orderly.objects (place_of object) less)) (taken_named o.state number o refl)
+    put_orderly object (taken_under number o) (record own { added = added_then o.state own.added }) (λ less. taken_keyed own.mapping o.state number o refl (orderly.objects (place_of object) less)) (taken_named o.state number o refl)
     (record { well = orderly.well; objects = orderly.objects; named = orderly.named })
 
 all_joined : (objects : List ObjId) (own : SessionState) → IsOrderlySession own → IsOrderlySession (session_joined objects own)
@@ -116,7 +115,7 @@ all_joined (object ∷ objects) own orderly = all_joined objects (session_taken 
 without_mark : (object : ObjId) (own : SessionState) → IsOrderlySession own → IsOrderlySession (session_unmarked object own)
 without_mark object own orderly =
     let o : Object = object_at own.graph object in
-    put_orderly object (object_unmarked o) own (λ less. record { keyed = (orderly.objects (place_of object) less).keyed; known = λ marked. absurd cc; unlinked = λ marked. absurd cc }) (λ named. named) orderly
+    put_orderly object (object_unmarked o) own (orderly.objects (place_of object)) (λ named. named) orderly
 
 pub added_orderly : (object : ObjId) (own : SessionState) → IsOrderlySession own → IsOrderlySession (session_added object own)
 added_orderly object own orderly =
@@ -130,14 +129,13 @@ put_linked : (put : Option LinkPut) (own : SessionState) → IsOrderlySession ow
 put_linked None own orderly = orderly
 put_linked (Some put) own orderly =
     let o : Object = object_at own.graph put.object in
-    put_orderly put.object (record o { links = slice_set o.links put.relation.0 put.link }) own
-    (λ less. let one = orderly.objects (place_of put.object) less in record { keyed = one.keyed; known = one.known; unlinked = λ marked. ap (λ (links : List Link). slice_set links put.relation.0 put.link) (one.unlinked marked) }) (λ named. named) orderly
+    put_orderly put.object (record o { links = slice_set o.links put.relation.0 put.link }) own (orderly.objects (place_of put.object)) (λ named. named) orderly
 
 orphan_marked : (object : ObjId) (orphan : Option Bool) (own : SessionState) → IsOrderlySession own → IsOrderlySession (session_orphaned object orphan own)
 orphan_marked object None own orderly = orderly
 orphan_marked object (Some orphan) own orderly =
     let o : Object = object_at own.graph object in
-    put_orderly object (record o { orphan = orphan }) own (λ less. let one = orderly.objects (place_of object) less in record { keyed = one.keyed; known = one.known; unlinked = one.unlinked }) (λ named. named) orderly
+    put_orderly object (record o { orphan = orphan }) own (orderly.objects (place_of object)) (λ named. named) orderly
 
 by_change : (owner : ObjId) (place : RelNo) (call : LinkCall) (own : SessionState) (found : Result Change Refusal) → IsOrderlySession own → IsOrderlySession (session_by owner place call own found)
 by_change owner place call own (Err fault) orderly = orderly
@@ -157,11 +155,11 @@ linked_orderly owner place call own orderly = by_change owner place call own (li
 pub flushed_session : (prepared : Prepared) (rows : RowChanges) (keys : List (List Value)) (own : SessionState) → IsOrderlySession own → IsOrderlySession (session_flushed prepared rows keys own)
 flushed_session prepared rows keys own orderly =
     let written : Written = written_with own.mapping prepared rows keys own.graph in
-    changed_orderly (graph_flushed own.mapping prepared rows keys own.graph) own (flushed_orderly written orderly.objects) (flushed_named written) orderly
+    changed_orderly (graph_flushed own.mapping prepared rows keys own.graph) own (flushed_keyed written orderly.objects) (flushed_named written) orderly
 
-pub if_orderly : (mapped : Mapped) (is_read : Bool) (o : Object) → o.marked ≡ false → IsOrderly mapped o → IsOrderly mapped (expired_if is_read o)
-if_orderly mapped true o unmarked orderly = expired_orderly mapped o unmarked
-if_orderly mapped false o unmarked orderly = orderly
+pub if_keyed : (mapped : Mapped) (is_read : Bool) (o : Object) → HoldsItsKey mapped o → HoldsItsKey mapped (expired_if is_read o)
+if_keyed mapped true o keyed = expired_keyed mapped o
+if_keyed mapped false o keyed = keyed
 
 pub if_named : (is_read : Bool) (o : Object) → is_named o.state o.identity ≡ true → is_named (expired_if is_read o).state (expired_if is_read o).identity ≡ true
 if_named true o named = named
@@ -174,12 +172,11 @@ if_settled false o settled = settled
 pub reread_settled : (table : TableId) (own : SessionState) → EachObject IsSettled own.graph → EachObject IsSettled (session_reread table own).graph
 reread_settled table own settled = each_changed IsSettled IsSettled (reread_of own.mapping table) own.graph settled (λ o one. if_settled (is_reread own.mapping table o) o one)
 
-pub reread_orderly : (table : TableId) (own : SessionState) → EachObject IsSettled own.graph → IsOrderlySession own → IsOrderlySession (session_reread table own)
-reread_orderly table own settled orderly =
+pub reread_orderly : (table : TableId) (own : SessionState) → IsOrderlySession own → IsOrderlySession (session_reread table own)
+reread_orderly table own orderly =
     let change : Object → Object = reread_of own.mapping table in
-    let Both : Object → Type 0 = λ o. IsSettled o × IsOrderly own.mapping o in
     changed_orderly (graph_reread own.mapping table own.graph) own
-    (each_changed Both (IsOrderly own.mapping) change own.graph (λ place less. (settled place less, orderly.objects place less)) (λ o both. if_orderly own.mapping (is_reread own.mapping table o) o both.0.unmarked both.1))
+    (each_changed (HoldsItsKey own.mapping) (HoldsItsKey own.mapping) change own.graph orderly.objects (λ o one. if_keyed own.mapping (is_reread own.mapping table o) o one))
     (named_each own.graph (graph_reread own.mapping table own.graph) (λ place o. change o) (λ place less. changed_at change own.graph place no_object less) (λ place o at named. if_named (is_reread own.mapping table o) o named))
     orderly
 
@@ -205,15 +202,13 @@ rolled_orderly count own orderly = record { well = orderly.well; objects = order
 pub closed_orderly : (own : SessionState) → IsOrderlySession own → IsOrderlySession (session_closed own)
 closed_orderly own orderly = record {
   well = orderly.well;
-  objects = each_changed (IsOrderly own.mapping) (IsOrderly own.mapping) object_left own.graph orderly.objects (λ o one. left_orderly own.mapping o one);
+  objects = each_changed (HoldsItsKey own.mapping) (HoldsItsKey own.mapping) object_left own.graph orderly.objects (λ o one. left_keyed own.mapping o one);
   named = tt;
 }
 
-pub committed_session : (own : SessionState) → EachObject IsSettled own.graph → IsOrderlySession own → IsOrderlySession (session_committed own)
-committed_session own settled orderly =
-    let Both : Object → Type 0 = λ o. IsSettled o × IsOrderly own.mapping o in
-    record {
-      well = orderly.well;
-      objects = each_changed Both (IsOrderly own.mapping) object_committed own.graph (λ place less. (settled place less, orderly.objects place less)) (λ o both. committed_orderly own.mapping o.state o refl both.0.unmarked both.1);
-      named = tt;
-    }
+pub committed_orderly : (own : SessionState) → IsOrderlySession own → IsOrderlySession (session_committed own)
+committed_orderly own orderly = record {
+  well = orderly.well;
+  objects = each_changed (HoldsItsKey own.mapping) (HoldsItsKey own.mapping) object_committed own.graph orderly.objects (λ o one. committed_keyed own.mapping o.state o refl one);
+  named = tt;
+}

@@ -20,9 +20,12 @@ use Rattle.load_rows.specs.Loading.{Loading}
 use Rattle.session_calls.specs.Parts.{World}
 use Rattle.session_laws.specs.Scopes.{object_in}
 use Rattle.session_laws.specs.Sound.{EachObject, IsFresh, IsMarkedRight, in_row, row_for}
-use Rattle.session_laws.specs.Health.Health.{IsOrderly, is_named}
-use Rattle.session_laws.proofs.Health.Objects.{IsEven, unmarked_orderly}
-use Rattle.session_laws.specs.Loads.{IsLoadOf, IsLoadedBy, IsMadeBy, IsReadBy, IsReadCell, IsRereadCell, IsRereadOf, row_value}
+use Rattle.session_laws.specs.Health.Health.{HoldsItsKey, is_named}
+use Rattle.session_laws.specs.Held.{KeepsItsKey}
+use Rattle.session_laws.proofs.Health.Objects.{IsEven}
+use Rattle.load_steps.specs.Loaded.{IsReadCell}
+use Rattle.preparing_laws.specs.Reread.{IsRereadCell}
+use Rattle.session_laws.specs.Loads.{IsLoadOf, IsLoadedBy, IsMadeBy, IsReadBy, IsRereadOf, row_value}
 
 -- ---- expired cells
 
@@ -41,10 +44,6 @@ even_read : (found : Option Value) (was now : Cell) → IsReadCell found was now
 even_read found was now (inl same) even = ap (λ (c : Cell). c.value) same ∙ even ∙ sym (ap (λ (c : Cell). c.base) same)
 even_read found was now (inr filled) even = ap (λ (c : Cell). c.value) filled.even ∙ sym (ap (λ (c : Cell). c.base) filled.even)
 
-known_read : (found : Option Value) (was now : Cell) → IsReadCell found was now → is_some was.base ≡ true → is_some now.base ≡ true
-known_read found was now (inl same) known = ap (λ (c : Cell). is_some c.base) same ∙ known
-known_read found was now (inr filled) known = ap (λ (c : Cell). is_some c.base) filled.even
-
 -- its base is what was found, where that of the cell before was
 base_read : (found : Option Value) (was now : Cell) (base : Value) → IsReadCell found was now → (was.base ≡ Some base → found ≡ Some base) → now.base ≡ Some base → found ≡ Some base
 base_read found was now base (inl same) fresh is = fresh (sym (ap (λ (c : Cell). c.base) same) ∙ is)
@@ -54,10 +53,6 @@ base_read found was now base (inr filled) fresh is = filled.is ∙ (sym (ap (λ 
 even_anew : (found : Option Value) (was now : Cell) → IsRereadCell found was now → IsEven was → IsEven now
 even_anew found was now (inl read) even = even_read found was now read even
 even_anew found was now (inr lost) even = even_read found expired_cell now lost.left refl
-
-known_anew : (found : Option Value) (was now : Cell) → IsRereadCell found was now → is_some was.base ≡ true → is_some now.base ≡ true
-known_anew found was now (inl read) known = known_read found was now read known
-known_anew found was now (inr lost) known = absurd (let never = sym (ap (λ (base : Option Value). is_some base) lost.unknown) ∙ known in cc)
 
 base_anew : (found : Option Value) (was now : Cell) (base : Value) → IsRereadCell found was now → (was.base ≡ Some base → found ≡ Some base) → now.base ≡ Some base → found ≡ Some base
 base_anew found was now base (inl read) fresh is = base_read found was now base read fresh is
@@ -74,10 +69,6 @@ persistent_keyed Detached identity persists identified = absurd cc
 under_key : (tables : Tables) (attribute : Attribute) (identity : Option (List Value)) → is_some identity ≡ true → in_row attribute (row_for tables attribute identity) ≡ in_row attribute (row_for tables attribute (Some (unwrap_or identity [])))
 under_key tables attribute None some = absurd cc
 under_key tables attribute (Some key) some = refl
-
-none_long : {A : Type 0} (xs : List A) → length xs ≡ 0 → xs ≡ []
-none_long [] is = refl
-none_long (x ∷ xs) is = absurd (omega (arith, is))
 
 module _ (mapped : Mapped) (tables : Tables) where
   module _ (was now : Object) (read : IsReadBy IsRereadCell mapped tables was now) where
@@ -108,26 +99,25 @@ module _ (mapped : Mapped) (tables : Tables) where
     pub read_named : is_named was.state was.identity ≡ true → is_named now.state now.identity ≡ true
     read_named named = ap (λ (o : Object). is_named o.state o.identity) read.rest ∙ named
 
-    pub read_orderly : IsOrderly mapped was → IsOrderly mapped now
-    read_orderly orderly = record {
-      keyed = λ named attr key.
-          even_anew (row_value mapped tables now attr) (cell_in was attr) (cell_in now attr) (cell_read attr)
-          (orderly.keyed (sym (ap (λ (o : Object). is_named o.state o.identity) read.rest) ∙ named) attr (sym (ap (λ (o : Object). is_key_attribute mapped o.class attr) read.rest) ∙ key));
-      known = λ marked attr less.
-          let inside : attr.0 < length was.cells = omega (arith, less, read.long) in
-          known_anew (row_value mapped tables now attr) (cell_in was attr) (cell_in now attr) (cell_read attr) (orderly.known (sym (ap (λ (o : Object). o.marked) read.rest) ∙ marked) attr inside);
-      unlinked = λ marked.
-          let before : length was.links ≡ 0 = ap length (orderly.unlinked (sym (ap (λ (o : Object). o.marked) read.rest) ∙ marked)) in
-          none_long now.links (read.linked ∙ before);
-    }
+    pub read_even : (attr : AttrNo) → IsEven (cell_in was attr) → IsEven (cell_in now attr)
+    read_even attr even = even_anew (row_value mapped tables now attr) (cell_in was attr) (cell_in now attr) (cell_read attr) even
+
+    pub read_keyed : HoldsItsKey mapped was → HoldsItsKey mapped now
+    read_keyed keyed = λ named attr key.
+        read_even attr (keyed (sym (ap (λ (o : Object). is_named o.state o.identity) read.rest) ∙ named) attr (sym (ap (λ (o : Object). is_key_attribute mapped o.class attr) read.rest) ∙ key))
+
+    -- so it is where no cell of its key was changed
+    pub read_keeps : (is_persistent was.state ≡ true → KeepsItsKey mapped was) → is_persistent now.state ≡ true → KeepsItsKey mapped now
+    read_keeps keeps persists = λ attr key.
+        read_even attr (keeps (sym (ap (λ (o : Object). is_persistent o.state) read.rest) ∙ persists) attr (sym (ap (λ (o : Object). is_key_attribute mapped o.class attr) read.rest) ∙ key))
 
   -- ---- an object that was made
 
   loaded_fresh : (class : ClassId) (key : List Value) → IsFresh mapped tables (loaded_object mapped class key)
   loaded_fresh class key persists attr less base is = absurd (let h : ◌≡◌ {A = Option Value} None (Some base) = sym (ap (λ (c : Cell). c.base) (loaded_cell mapped class key attr)) ∙ is in cc)
 
-  loaded_orderly : (class : ClassId) (key : List Value) → IsOrderly mapped (loaded_object mapped class key)
-  loaded_orderly class key = unmarked_orderly mapped (loaded_object mapped class key) refl (λ named attr is. ap (λ (c : Cell). c.value) (loaded_cell mapped class key attr) ∙ sym (ap (λ (c : Cell). c.base) (loaded_cell mapped class key attr)))
+  loaded_even : (class : ClassId) (key : List Value) (attr : AttrNo) → IsEven (cell_in (loaded_object mapped class key) attr)
+  loaded_even class key attr = ap (λ (c : Cell). c.value) (loaded_cell mapped class key attr) ∙ sym (ap (λ (c : Cell). c.base) (loaded_cell mapped class key attr))
 
   module _ (now : Object) (made : IsMadeBy IsRereadCell mapped tables now) where
     pub made_fresh : is_identified now ≡ true → IsFresh mapped tables now
@@ -136,8 +126,11 @@ module _ (mapped : Mapped) (tables : Tables) where
     pub made_marked : IsMarkedRight now
     made_marked is = ap (λ (o : Object). is_persistent o.state) made.1.rest
 
-    pub made_orderly : IsOrderly mapped now
-    made_orderly = read_orderly (loaded_object mapped now.class made.0) now made.1 (loaded_orderly now.class made.0)
+    pub made_keyed : HoldsItsKey mapped now
+    made_keyed = read_keyed (loaded_object mapped now.class made.0) now made.1 (λ named attr is. loaded_even now.class made.0 attr)
+
+    pub made_keeps : is_persistent now.state ≡ true → KeepsItsKey mapped now
+    made_keeps = read_keeps (loaded_object mapped now.class made.0) now made.1 (λ persists attr is. loaded_even now.class made.0 attr)
 
   -- ---- each object
 

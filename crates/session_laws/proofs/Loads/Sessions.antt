@@ -23,13 +23,14 @@ use Rattle.session_scopes.specs.SessionState.{GoesOn, SessionState, depth_in}
 use Rattle.session_scopes.proofs.GrownLemmas.{grown_long, keys_grown, there_grown}
 use Rattle.session_laws.specs.Scopes.{object_in}
 use Rattle.session_laws.specs.Sound.{AreApart, AreSoundScopes, IsAsAtStart, IsFresh, IsMarkedRight, IsSound, RestIf, as_object}
-use Rattle.session_laws.specs.Health.Health.{AreNamedSince, IsOrderly, IsOrderlySession, is_named_in}
+use Rattle.session_laws.specs.Health.Health.{AreNamedSince, HoldsItsKey, IsOrderlySession, is_named_in}
 use Rattle.session_laws.specs.Whole.{IsKeyed}
-use Rattle.session_laws.specs.Loads.{IsLoadedBy, IsNotedAt, IsRereadCell}
+use Rattle.session_laws.specs.Loads.{IsLoadedBy, IsNotedAt}
+use Rattle.preparing_laws.specs.Reread.{IsRereadCell}
 use Rattle.session_laws.proofs.Sound.Changes.{rest_inside}
 use Rattle.session_laws.proofs.Sound.Touches.{not_true, other_answer}
 use Rattle.session_laws.proofs.Health.Named.{named_inside, named_more}
-use Rattle.session_laws.proofs.Loads.Objects.{each_loaded, made_fresh, made_marked, made_orderly, read_fresh, read_marked, read_named, read_orderly}
+use Rattle.session_laws.proofs.Loads.Objects.{each_loaded, made_fresh, made_keyed, made_marked, read_fresh, read_keyed, read_marked, read_named}
 use Rattle.session_laws.proofs.Loads.Touched.{filled_scopes, filled_stays, noted_touched}
 
 -- ---- graphs that grow
@@ -117,7 +118,7 @@ loaded_orderly tables after own loaded orderly =
     let frames : Framed = frames_filled after.graph after.notes own.frames in
     record {
       well = orderly.well;
-      objects = each_loaded own.mapping tables (IsOrderly own.mapping) own.graph after (λ was now read identified. read_orderly own.mapping tables was now read) (λ now made identified. made_orderly own.mapping tables now made) loaded orderly.objects;
+      objects = each_loaded own.mapping tables (HoldsItsKey own.mapping) own.graph after (λ was now read identified. read_keyed own.mapping tables was now read) (λ now made identified. made_keyed own.mapping tables now made) loaded orderly.objects;
       named = subst (λ (s : List Scope). AreNamedSince (is_named_in after.graph) s) (sym (filled_scopes after.graph after.notes own.frames))
           (named_more (is_named_in own.graph) (is_named_in after.graph) own.frames.scopes (named_loaded own.mapping tables own.graph after loaded) orderly.named);
     }

@@ -56,7 +56,7 @@ any_filter test p (x ∷ xs) e =
     step true here more = or_none (test x) (list_any test (filter p xs)) here more
     step false here more = more
 
-two_filter : {A : Type 0} (test : A → A → Bool) (p : A → Bool) (xs : List A) → some_two test xs ≡ false → some_two test (filter p xs) ≡ false
+pub two_filter : {A : Type 0} (test : A → A → Bool) (p : A → Bool) (xs : List A) → some_two test xs ≡ false → some_two test (filter p xs) ≡ false
 two_filter test p [] e = refl
 two_filter test p (x ∷ xs) e =
     let both = or_false (list_any (λ later. test later x) xs) (some_two test xs) e in

@@ -24,7 +24,7 @@ use Rattle.session_laws.proofs.Sound.Everyone.{KeepsHolders, each_changed, each_
 
 -- ---- an object that has left the session
 
-left_persists : (state : State) → is_persistent (left_state state) ≡ false
+pub left_persists : (state : State) → is_persistent (left_state state) ≡ false
 left_persists Transient = refl
 left_persists Pending = refl
 left_persists Persistent = refl
@@ -38,7 +38,7 @@ left_settled Persistent is = absurd cc
 left_settled Deleted is = absurd cc
 left_settled Detached is = absurd cc
 
-not_both : {A : Type 0} (b : Bool) → b ≡ false → b ≡ true → A
+pub not_both : {A : Type 0} (b : Bool) → b ≡ false → b ≡ true → A
 not_both b left right = absurd (let h : false ≡ true = sym left ∙ right in cc)
 
 left_identified : (state : State) (identity : Option (List Value)) → (if has_identity state then is_some identity else not (is_some identity)) ≡ true
@@ -49,7 +49,7 @@ left_identified Persistent identity is = is
 left_identified Deleted identity is = is
 left_identified Detached identity is = is
 
-left_holders : KeepsHolders object_left
+pub left_holders : KeepsHolders object_left
 left_holders = record {
   persists = λ o persists. not_both (is_persistent (left_state o.state)) (left_persists o.state) persists;
   identity = λ o persists. not_both (is_persistent (left_state o.state)) (left_persists o.state) persists;

@@ -1,14 +1,13 @@
 -- The calls on single objects keep a session sound.
-use Rattle.std.proofs.Common.{◌≡◌, ◌≢◌, ℕ, ◌<◌, Bool, true, false, not, ◌||◌, length, get_or, Option, None, Some, refl, sym, ap, ◌∙◌, subst, ⊎_elim, arith}
+use Rattle.std.proofs.Common.{◌≡◌, ◌≢◌, ℕ, ◌<◌, Bool, true, false, not, length, get_or, Option, None, Some, refl, sym, ap, ◌∙◌, subst, ⊎_elim, arith}
 use Rattle.std.specs.Prelude.{if◌then◌else◌, slice_set}
-use Rattle.std.specs.List.{list_all}
 use Rattle.std.proofs.lemmas.Bool.{cases_eq}
 use Rattle.std.proofs.lemmas.List.{get_or-set_other, get_or-set_same, get_or_default, length-set}
 use Rattle.base_core.specs.declared.ids.AttrNo.{AttrNo}
 use Rattle.base_core.specs.declared.ids.ObjId.{ObjId}
 use Rattle.base_core.specs.declared.value.Value.{Value}
 use Rattle.base_core.specs.declared.refusal.Refusal.{Refusal}
-use Rattle.base_core.specs.declared.refusal.Refusal.TheVariants.{InvalidRequestError, NotBuilt}
+use Rattle.base_core.specs.declared.refusal.Refusal.TheVariants.{InvalidRequestError}
 use Rattle.base_core.specs.declared.refusal.RequestKind.TheVariants.{NotPersistent}
 use Rattle.object_arena.specs.declared.object.Cell.{Cell}
 use Rattle.object_arena.specs.declared.object.Object.{Object}
@@ -20,7 +19,7 @@ use Rattle.keeper_core.specs.Store.{Store}
 use Rattle.keeper_core.specs.Beside.{on_own}
 use Rattle.schema_core.specs.Tables.{Tables}
 use Rattle.session_parts.specs.Depths.{has_scope}
-use Rattle.session_scopes.specs.Changes.{delete_fault, deletion_marked, has_links, is_known, value_put}
+use Rattle.session_scopes.specs.Changes.{delete_fault, deletion_marked, value_put}
 use Rattle.session_scopes.specs.SessionState.{SessionState}
 use Rattle.session_calls.specs.Steps.{delete, set_cell, set_fitting}
 use Rattle.session_laws.specs.Sound.{IsFresh, IsMarkedRight, IsSound, KeepsSoundOf}
@@ -92,7 +91,7 @@ mark_sound object own store made opened sound =
     unless_changed (delete_fault o) (with_object own.graph object new) own store sound
     (λ none. one_changed own store object new opened made (stands_kept own.graph object new made sound.graph refl refl)
     (object_of (IsFresh own.mapping store.tables) own.graph object made sound.fresh)
-    (λ is. first_passed (is_persistent o.state) (InvalidRequestError NotPersistent) (if not (list_all is_known o.cells) || has_links o then Some NotBuilt else None) none) sound)
+    (λ is. first_passed (is_persistent o.state) (InvalidRequestError NotPersistent) None none) sound)
 
 pub delete_sound : KeepsSoundOf delete
 unfolding delete

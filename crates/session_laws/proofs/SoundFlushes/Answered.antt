@@ -1,5 +1,5 @@
 -- A flush that answered leaves a sound session.
-use Rattle.std.proofs.Common.{◌≡◌, ◌≢◌, ℕ, ◌<◌, Bool, true, false, ◌&&◌, if◌then◌else◌, List, [], ◌∷◌, length, map, get_or, Option, None, Some, refl, sym, ap, ◌∙◌, subst, arith}
+use Rattle.std.proofs.Common.{◌≡◌, ◌≢◌, ℕ, ◌<◌, Bool, true, false, ◌&&◌, ◌||◌, if◌then◌else◌, List, [], ◌∷◌, length, map, get_or, Option, None, Some, refl, sym, ap, ◌∙◌, subst, arith}
 use Rattle.std.specs.Prelude.{is_some}
 use Rattle.std.specs.List.{AllByRecursion, enumerate_from, range_with_len}
 use Rattle.std.proofs.lemmas.List.{length-map}
@@ -26,7 +26,8 @@ use Rattle.session_parts.specs.Depths.{has_scope}
 use Rattle.object_records.specs.Touched.{frames_touched_between}
 use Rattle.session_scopes.specs.SessionState.{with_graph}
 use Rattle.session_calls.specs.Parts.{World}
-use Rattle.session_acts.specs.Flush.{flush, prepared_of}
+use Rattle.prepared_objects.specs.Leaving.{prepared_of, starts_deletes}
+use Rattle.session_acts.specs.Flush.{flush}
 use Rattle.session_acts.specs.Outcome.{changes_of}
 use Rattle.session_laws.specs.Flushes.{LeavesLegalTables}
 use Rattle.session_laws.proofs.Flushes.Again.{here_at, prepared_among}
@@ -134,12 +135,12 @@ module _ (w : World) (inside : 0 < length w.own.frames.scopes) (sound : IsSound 
   it_at place = get_or w.own.graph.objects place no_object
 
   abbrev pub written : Written
-  written = written_with mapped (prepared_of w.own.graph) (changes_of w.own) sent.given w.own.graph
+  written = written_with mapped (prepared_of mapped w.own.graph) (changes_of w.own) sent.given w.own.graph
 
   keys_long : length written.keys ≡ length w.own.graph.objects
   unfolding new_keys object_ids
   keys_long =
-      length-map (map id_of_place (range_with_len 0 (length w.own.graph.objects))) (key_if_new mapped w.own.graph (prepared_of w.own.graph) (changes_of w.own) sent.given)
+      length-map (map id_of_place (range_with_len 0 (length w.own.graph.objects))) (key_if_new mapped w.own.graph (prepared_of mapped w.own.graph) (changes_of w.own) sent.given)
       ∙ length-map (range_with_len 0 (length w.own.graph.objects)) id_of_place
       ∙ length-range_with_len 0 (length w.own.graph.objects)
 
@@ -152,9 +153,9 @@ module _ (w : World) (inside : 0 < length w.own.frames.scopes) (sound : IsSound 
       subst (IsSettledFrom (it_at place)) (sym (flushed_at written place less))
       (settled_in written (id_of_place place) (it_at place) (sound.marked place less) (it_at place).state refl
       (λ stays. not_marked (it_at place).marked (λ marked.
-      let among : is_among (prepared_of w.own.graph).deleted (id_of_place place) ≡ true =
-      prepared_among w.own.graph place less
-      (ap (λ (o : Object). is_persistent o.state && o.marked) (here_at w.own.graph place) ∙ (λ i. sound.marked place less marked i && marked i)) in
+      let among : is_among (prepared_of mapped w.own.graph).deleted (id_of_place place) ≡ true =
+      prepared_among mapped w.own.graph place less
+      (ap starts_deletes (here_at w.own.graph place) ∙ (λ i. sound.marked place less marked i && (marked i || (it_at place).orphan))) in
       let e : true ≡ false = sym among ∙ stays in
       absurd cc)))
 

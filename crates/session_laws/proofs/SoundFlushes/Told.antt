@@ -1,32 +1,33 @@
 -- A flush of a session whose objects the tables tell, over a mapping of any form, leaves a sound session.
-use Rattle.std.proofs.Common.{◌≡◌, ℕ, ◌<◌, Bool, true, false, ◌&&◌, ◌==◌, List, length, filter, get_or, Option, Ok, Err, Result, is_some, refl, sym, ap, ◌∙◌, arith}
-use Rattle.std.specs.List.{AllByRecursion}
-use Rattle.std.proofs.lemmas.Bool.{and_parts, eqb-true}
-use Rattle.std.proofs.lemmas.List.Elements.{recursion_from_All}
+use Rattle.std.proofs.Common.{◌≡◌, ℕ, ◌<◌, true, ◌==◌, List, length, get_or, Option, Ok, Err, Result, is_some, refl, sym, ap, ◌∙◌, subst, arith}
+use Rattle.std.proofs.lemmas.Bool.{eqb-true}
 use Rattle.base_core.specs.declared.ids.ObjId.{ObjId}
 use Rattle.base_core.specs.declared.refusal.Refusal.{Refusal}
 use Rattle.base_core.specs.declared.value.Value.{Value}
-use Rattle.schema_core.specs.Declaration.{some_two}
 use Rattle.schema_core.specs.Tables.{Legal, Tables}
 use Rattle.class_types.specs.declared.mapped.Attribute.{Attribute}
 use Rattle.class_mapping.specs.Mapped.{Mapped, attribute_of}
-use Rattle.class_mapping.proofs.Having.{Has, all_from, from_filter, some_of}
+use Rattle.class_mapping.proofs.Having.{some_of}
 use Rattle.object_arena.specs.declared.object.Object.{Object}
-use Rattle.object_arena.specs.Graph.{IsObject, is_among, is_persistent, no_object, object_at, place_of}
+use Rattle.object_arena.specs.Graph.{is_among, is_persistent, no_object, object_at}
 use Rattle.object_arena.specs.Identity.{id_of_place}
-use Rattle.object_rows.specs.Seen.{object_ids}
-use Rattle.object_rows.proofs.ObjectSteps.{kept_made}
 use Rattle.graph_flushed.specs.Flushed.{Written, graph_written}
 use Rattle.graph_flushed.proofs.ObjectSteps.{flushed_long}
 use Rattle.session_calls.specs.Parts.{World}
-use Rattle.session_acts.specs.Flush.{flush, is_to_delete, prepared_of}
-use Rattle.session_laws.specs.Flushes.{LeavesLegalTables}
+use Rattle.prepared_objects.specs.Known.{IsPrepared}
+use Rattle.prepared_objects.specs.Leaving.{going, prepared_of}
+use Rattle.session_acts.specs.Flush.{flush}
+use Rattle.session_laws.specs.Flushes.{LeavesLegalTables, prepared_world}
+use Rattle.session_laws.specs.Preparing.{IsReadable, PreparationsKnowAll, PreparationsLeaveReread}
 use Rattle.session_laws.proofs.Flushes.Again.{here_at}
-use Rattle.session_laws.proofs.Flushes.Flushing.{IsFlushSent, flush_sent}
+use Rattle.session_laws.proofs.Flushes.Flushing.{IsFlushDone, IsFlushSent, flush_sent}
+use Rattle.session_laws.proofs.Flushes.Reading.{prepare_mapping}
+use Rattle.session_laws.proofs.Preparing.{prepare_told, told_readable, told_sound}
 use Rattle.session_laws.specs.Sound.{EachObject, IsFresh, IsSound, in_row, row_for}
 use Rattle.session_laws.proofs.Held.Ascending.{ascending_sorted}
 use Rattle.session_laws.specs.OwnRows.{ObjectsHaveOwnRows, StandInTables}
-use Rattle.session_laws.proofs.OwnRows.Standing.{hierarchies, ids_once}
+use Rattle.session_laws.proofs.OwnRows.Deleted.{going_known, going_made, going_once, going_persistent}
+use Rattle.session_laws.proofs.OwnRows.Standing.{hierarchies}
 use Rattle.session_laws.proofs.Projects.LateKeys.{each_has}
 use Rattle.session_laws.specs.Held.{AreHeld, FlushedObjectsHold, HoldsItsRows, IsWhollyKnown, column_in, held_in}
 use Rattle.session_laws.specs.SoundFlushes.{IsToldSession, RefusedFlushIsSound, ToldFlushIsSound, ToldFlushKeepsSound}
@@ -43,78 +44,72 @@ fresh_holds mapped tables object persists there fresh attr base less e = sym (co
 holds_fresh : (mapped : Mapped) (tables : Tables) (object : Object) → (is_persistent object.state ≡ true → is_some object.identity ≡ true) → (is_persistent object.state ≡ true → HoldsItsRows mapped tables object) → IsFresh mapped tables object
 holds_fresh mapped tables object there holds persists attr less base e = column_is tables (attribute_of mapped object.class attr) object.identity (there persists) ∙ holds persists attr base less e
 
-module _ (w : World) (steady : IsToldSession w) (sound : IsSound w) where
+-- what is known of persistent objects is what their rows hold
+held_in_rows : (w : World) → IsSound w → (place : ℕ) → place < length w.own.graph.objects → is_persistent (get_or w.own.graph.objects place no_object).state ≡ true → HoldsItsRows w.own.mapping w.store.tables (get_or w.own.graph.objects place no_object)
+held_in_rows w sound place less persists =
+    let it : Object = get_or w.own.graph.objects place no_object in
+    fresh_holds w.own.mapping w.store.tables it persists (persists_there it (sound.graph.identified place no_object less) persists) (sound.fresh place less)
+
+-- a sound session of which all is known that is to be known of the objects that are to be deleted
+pub stand : (w : World) → IsReadable w → IsSound w → IsPrepared w.own.mapping w.own.graph → StandInTables w.own.mapping w.own.graph (prepared_of w.own.mapping w.own.graph) w.store.tables
+unfolding prepared_of
+stand w can sound prepared = record {
+  well = can.well;
+  fit = can.fit;
+  is = sound.graph;
+  made = going_made w.own.mapping w.own.graph;
+  standing = going_persistent w.own.mapping w.own.graph;
+  once = going_once w.own.mapping w.own.graph;
+  legal = sound.legal;
+  holds = held_in_rows w sound;
+  known = going_known w.own.mapping w.own.graph prepared;
+}
+
+module _ (w : World) (steady : IsToldSession w) (sound : IsSound w) (prepared : IsPrepared w.own.mapping w.own.graph) where
   abbrev mapped : Mapped
   mapped = w.own.mapping
 
-  abbrev it_at : ℕ → Object
-  it_at place = get_or w.own.graph.objects place no_object
-
-  held_before : (place : ℕ) → place < length w.own.graph.objects → is_persistent (it_at place).state ≡ true → HoldsItsRows mapped w.store.tables (it_at place)
-  held_before place less persists = fresh_holds mapped w.store.tables (it_at place) persists (persists_there (it_at place) (sound.graph.identified place no_object less) persists) (sound.fresh place less)
-
-  marked_known : (place : ℕ) → place < length w.own.graph.objects → is_among (prepared_of w.own.graph).deleted (id_of_place place) ≡ true → IsWhollyKnown (it_at place)
-  marked_known place less among =
-      let test : ObjId → Bool = λ object. is_persistent (object_at w.own.graph object).state && (object_at w.own.graph object).marked in
-      let some = some_of (λ (other : ObjId). other.0 == (id_of_place place).0) (filter test (object_ids w.own.graph)) among in
+  deleted_known : (place : ℕ) → place < length w.own.graph.objects → is_among (going mapped w.own.graph) (id_of_place place) ≡ true → IsWhollyKnown (get_or w.own.graph.objects place no_object)
+  deleted_known place less among =
+      let some = some_of (λ (other : ObjId). other.0 == (id_of_place place).0) (going mapped w.own.graph) among in
       let same : some.0 ≡ id_of_place place = ap (λ (n : ℕ). let id : ObjId = record { 0 = n } in id) (eqb-true some.0.0 (id_of_place place).0 some.2) in
-      let passes : test (id_of_place place) ≡ true = ap test (sym same) ∙ (from_filter test (object_ids w.own.graph) some.0 some.1).1 in
-      steady.known place less (ap (λ (o : Object). o.marked) (sym (here_at w.own.graph place)) ∙ (and_parts (is_persistent (object_at w.own.graph (id_of_place place)).state) (object_at w.own.graph (id_of_place place)).marked passes).1)
+      subst IsWhollyKnown (here_at w.own.graph place)
+      (subst (λ (object : ObjId). IsWhollyKnown (object_at w.own.graph object)) same
+      (each_has (λ (object : ObjId). IsWhollyKnown (object_at w.own.graph object)) (going mapped w.own.graph) some.0 (going_known mapped w.own.graph prepared) some.1))
 
-  abbrev deleted : List ObjId
-  deleted = (prepared_of w.own.graph).deleted
-
-  made : AllByRecursion (IsObject w.own.graph) deleted
-  made = recursion_from_All (IsObject w.own.graph) deleted (kept_made w.own.graph (is_to_delete w.own.graph) deleted refl)
-
-  marked : (object : ObjId) → Has deleted object → (is_persistent (object_at w.own.graph object).state ≡ true) × ((object_at w.own.graph object).marked ≡ true)
-  marked object has = and_parts (is_persistent (object_at w.own.graph object).state) (object_at w.own.graph object).marked (from_filter (is_to_delete w.own.graph) (object_ids w.own.graph) object has).1
-
-  once : some_two (λ (one other : ObjId). one.0 == other.0) deleted ≡ false
-  unfolding object_ids
-  once = ids_once (is_to_delete w.own.graph) 0 (length w.own.graph.objects)
-
-  pub stand : StandInTables mapped w.own.graph (prepared_of w.own.graph) w.store.tables
-  stand = record {
-    well = steady.well;
-    fit = steady.fit;
-    is = sound.graph;
-    made = made;
-    standing = all_from (λ (object : ObjId). is_persistent (object_at w.own.graph object).state ≡ true) deleted (λ object has. (marked object has).0);
-    once = once;
-    legal = sound.legal;
-    holds = held_before;
-    known = all_from (λ (object : ObjId). IsWhollyKnown (object_at w.own.graph object)) deleted
-        (λ object has. let it = each_has (IsObject w.own.graph) deleted object made has in steady.known (place_of object) (let within : place_of object < length w.own.graph.objects = omega (arith, it.0, it.1) in within) (marked object has).1);
-  }
-
-  all_held : ObjectsHaveOwnRows → AreHeld mapped w.own.graph (prepared_of w.own.graph) w.store.tables
+  all_held : ObjectsHaveOwnRows → AreHeld mapped w.own.graph (prepared_of mapped w.own.graph) w.store.tables
+  unfolding prepared_of
   all_held own = record {
     well = steady.well;
     classes = hierarchies mapped steady.well;
     legal = sound.legal;
     sorted = ascending_sorted w.store.tables steady.ascending.tables;
-    own = own mapped w.own.graph (prepared_of w.own.graph) w.store.tables stand;
-    holds = held_before;
+    own = own mapped w.own.graph (prepared_of mapped w.own.graph) w.store.tables (stand w (told_readable w steady sound) sound prepared);
+    holds = held_in_rows w sound;
     keyed = steady.keyed;
-    known = marked_known;
+    known = deleted_known;
   }
 
   held_at : FlushedObjectsHold → ObjectsHaveOwnRows → (now : World) (sent : IsFlushSent w now) (legal : Legal mapped.schema now.store.tables) → EachObject (IsFresh mapped now.store.tables) (graph_written (written w steady.inside sound now sent legal))
   held_at hold own now sent legal place less =
       let after : Written = written w steady.inside sound now sent legal in
       holds_fresh mapped now.store.tables (get_or (graph_written after).objects place no_object) (persists_there (get_or (graph_written after).objects place no_object) ((is w steady.inside sound now sent legal).identified place no_object less))
-      (hold mapped w.own.graph (prepared_of w.own.graph) w.store.tables sent.statements (record { tables = now.store.tables; keys = sent.keys }) sent.given (all_held own) sent.planned sent.sent legal sent.known place (omega (arith, less, flushed_long after)))
+      (hold mapped w.own.graph (prepared_of mapped w.own.graph) w.store.tables sent.statements (record { tables = now.store.tables; keys = sent.keys }) sent.given (all_held own) sent.planned sent.sent legal sent.known place (omega (arith, less, flushed_long after)))
 
-pub told_answered : FlushedObjectsHold → ObjectsHaveOwnRows → LeavesLegalTables → ToldFlushIsSound
-told_answered hold own leaves w steady sound is =
-    let sent : IsFlushSent w (flush w).after = flush_sent w is in
-    let legal = left_legal leaves w steady.ascending sound in
-    answered w steady.inside sound (flush w).after sent legal (held_at w steady sound hold own (flush w).after sent legal)
+-- of the session behind its preparation
+pub told_answered : PreparationsLeaveReread → PreparationsKnowAll → FlushedObjectsHold → ObjectsHaveOwnRows → LeavesLegalTables → ToldFlushIsSound
+told_answered reads knows hold own leaves w steady sound is =
+    let done : IsFlushDone w (flush w).after = flush_sent w is in
+    let can : IsReadable w = told_readable w steady sound in
+    let mid : World = prepared_world w in
+    let told : IsToldSession mid = prepare_told reads w can steady in
+    let stands : IsSound mid = told_sound reads w steady sound in
+    let legal : Legal mid.own.mapping.schema (flush w).after.store.tables = subst (λ (m : Mapped). Legal m.schema (flush w).after.store.tables) (sym (prepare_mapping w)) (left_legal leaves w steady.ascending sound) in
+    answered mid told.inside stands (flush w).after done.sent legal (held_at mid told stands (knows w can done.prepared) hold own (flush w).after done.sent legal)
 
 pub told_keeps : ToldFlushIsSound → RefusedFlushIsSound → ToldFlushKeepsSound
 told_keeps answers refused w steady sound = by (flush w).answer refl
   where
     by : (answer : Result (Unit {0}) Refusal) → (flush w).answer ≡ answer → IsSound (flush w).after
     by (Ok u) is = (answers w steady sound is).0
-    by (Err e) is = refused w e steady.inside sound is
+    by (Err e) is = refused w e steady.inside (told_readable w steady sound) sound is

@@ -17,6 +17,12 @@ use Rattle.keeper_core.specs.Calls as call
 use Rattle.table_laws.specs.Legality.{Keeps}
 use Rattle.object_arena.specs.Graph.{Graph, key_fault, make, object_at, value_fault, with_link, with_object, with_value}
 use Rattle.graph_flushed.specs.Flushed.{graph_flushed}
+use Rattle.object_records.specs.declared.kept.Held.{Held}
+use Rattle.object_records.specs.Kept.{held_in}
+use Rattle.object_rows.specs.declared.prepared.Prepared.{Prepared}
+use Rattle.load_rows.specs.Loading.{Loading}
+use Rattle.load_preparing.specs.Preparing.{read_going}
+use Rattle.prepared_objects.specs.Leaving.{prepared_of}
 use Rattle.keeper_core.specs.Programs.{Event, Run, ◌>>=◌, continue_from, give, refuse, undo_on_refusal, with_undo}
 use Rattle.keeper_core.specs.Beside.{by_own, changes, on_own, on_store}
 use Rattle.keeper_core.specs.Store.{Store}
@@ -30,6 +36,8 @@ use Rattle.savepoints.specs.Scopes.{begun_at, scope_released}
 use Rattle.sql_semantics.specs.Applied.{table_of}
 use Rattle.session_scopes.specs.Changes.{changed_unless, delete_fault, deletion_marked, value_put}
 use Rattle.session_scopes.specs.Handles.{place_of_handle}
+use Rattle.session_scopes.specs.Keeping.{session_given_back}
+use Rattle.session_scopes.specs.Loads.{on_load, with_loaded}
 use Rattle.session_scopes.specs.Making as making
 use Rattle.session_scopes.specs.Scoping.{session_committed, session_failed, session_nested, session_released, session_restored, session_rolled_back}
 use Rattle.session_scopes.specs.SessionState.{SessionState, depth_in, depth_of, in_transaction, with_graph, with_notes}
@@ -39,7 +47,8 @@ use Rattle.session_calls.specs.Parts.{World, checked, fault_if, roll_back_scope}
 use Rattle.session_calls.specs.Steps.{begin_unless, close, delete, enter, go_back_if, pending_fault, roll_back_place, rollback, rollback_handle, set_cell, set_fitting}
 use Rattle.session_calls.proofs.Acting.{no_scope_open, some_scope_open}
 use Rattle.session_acts.specs.Savepoints.{begin_savepoint, check_handle, commit_transaction, commit_whole, enter_nested, handle_fault, limit_fault, release_handle, release_many, release_one}
-use Rattle.session_objects.specs.Steps.{add}
+use Rattle.session_objects.specs.Leaving.{expunged_at, session_expunged}
+use Rattle.session_objects.specs.Steps.{add, expunge}
 use Rattle.session_objects.specs.Taking.{added_then, coming_objects, session_added, session_joined, session_taken, taken_under, unmarked}
 use Rattle.session_links.specs.Linking.{change_fault, coming_along, session_by, session_changed, session_linked, session_orphaned, session_put}
 use Rattle.session_links.specs.Steps.{change_inside, change_link}
@@ -47,15 +56,19 @@ use Rattle.session_statements.specs.Rewriting.{graph_reread}
 use Rattle.session_statements.specs.Steps as statements
 use Rattle.session_tables.specs.declared.tables.TableChange.{TableChange}
 use Rattle.session_tables.specs.Steps.{change_all}
-use Rattle.session_acts.specs.Flush.{flush, give_up, write_objects}
+use Rattle.session_acts.specs.Flush.{flush, give_up, give_up_to, prepare, write_loaded, write_objects}
 use Rattle.session_acts.specs.Steps as acts
-use Rattle.session_acts.specs.Steps.{flush_now, flush_whole, orphan_fault}
+use Rattle.session_acts.specs.Steps.{flush_now}
+use Rattle.session_laws.specs.Loads.{loading_of}
+use Rattle.session_laws.proofs.Calls.Leaving.{closure_keeps}
+use Rattle.session_laws.proofs.Loads.Sessions.{loaded_handled}
+use Rattle.session_laws.proofs.Loads.Touched.{filled_scopes}
 use Rattle.session_laws.proofs.Sound.Beginning.{entered_open}
 use Rattle.session_laws.proofs.Sound.Touches.{between_scopes}
 use Rattle.session_objects.specs.ValueSteps.{cell_kept, given_fault, made_unless, set_inside, set_judged, set_valid, valid_made, value_invalid}
 use Rattle.session_laws.proofs.Health.Acts.{IsLed, begun_handled, led_checked, led_then}
 use Rattle.session_laws.proofs.Whole.Keeping as keeping
-use Rattle.session_laws.proofs.Whole.Keeping.{Holds}
+use Rattle.session_laws.proofs.Whole.Keeping.{Holds, goes}
 
 -- each savepoint in progress has a handle
 abbrev pub HasHandles : SessionState → Type 0
@@ -93,6 +106,12 @@ calm_with graph own calm = record { handles = handles_with graph own calm.handle
 
 deep_with : (graph : Graph) (own : SessionState) → IsDeep own → IsDeep (with_graph graph own)
 deep_with graph own deep = record { calm = calm_with graph own deep.calm; inside = subst (λ (scopes : List Scope). 0 < length scopes) (sym (between_scopes own.graph graph own.frames)) deep.inside }
+
+calm_read : (after : Loading) (own : SessionState) → IsCalm own → IsCalm (with_loaded after own)
+calm_read after own calm = record { handles = loaded_handled after own calm.handles; well = calm.well }
+
+deep_read : (after : Loading) (own : SessionState) → IsDeep own → IsDeep (with_loaded after own)
+deep_read after own deep = record { calm = calm_read after own deep.calm; inside = subst (λ (scopes : List Scope). 0 < length scopes) (sym (filled_scopes after.graph after.notes own.frames)) deep.inside }
 
 noted : (events : List Event) (own : SessionState) → HasHandles own → HasHandles (with_notes events own)
 noted events own has = has
@@ -198,6 +217,12 @@ added_stays object own has =
 
 pub add_handled : (object : ObjId) → Keeps Handled (add object)
 add_handled object = keeping.adds HasHandles noted entered object (added_stays object)
+
+expunge_stays : (object : ObjId) (own : SessionState) → HasHandles own → HasHandles (session_expunged object own)
+expunge_stays object own has = closure_keeps HasHandles (λ one now. handles_with (expunged_at now.graph one) now) object own has
+
+pub expunge_handled : (object : ObjId) → Keeps Handled (expunge object)
+expunge_handled object = keeping.expunges HasHandles noted entered object (expunge_stays object)
 
 put_handles : (put : Option LinkPut) (own : SessionState) → HasHandles own → HasHandles (session_put put own)
 put_handles None own has = has
@@ -342,33 +367,45 @@ given_up v calm =
     let done : HasHandles (session_failed x.own) = failed_handles x.own c in
     changing HasHandles session_failed x done done)).here
 
-module _ (P : SessionState → Type 0) (again : (notes : List Note) (own : SessionState) → P own → P (record own { notes = notes })) (other : (graph : Graph) (own : SessionState) → P own → P (with_graph graph own)) (calm : (own : SessionState) → P own → IsCalm own) where
-  flush_led : (w : World) → P w.own → IsLed Handled (Holds P) (flush w)
-  unfolding flush
-  flush_led w has =
-      guarded Handled (Holds P) write_objects give_up w
-      ((keeping.writes_objects P (λ events own p. again _ own p) (λ rows own p. again _ own p) (λ prepared none rows keys own p. other (graph_flushed own.mapping prepared rows keys own.graph) own p)).kept w has)
-      (λ v p. (calm v.own p).handles) (λ v p. given_up v (calm v.own p))
+-- what was kept of the objects is given back first
+gave_up : (held : List Held) (v : World) → IsCalm v.own → Handled (give_up_to held v).after
+unfolding give_up_to changes ◌>>=◌
+gave_up held v calm = given_up (record { own = session_given_back held v.own; store = v.store }) (record { handles = calm.handles; well = calm.well })
 
-  whole_led : (w : World) → P w.own → IsLed Handled (Holds P) (flush_whole w)
-  unfolding flush_whole
-  whole_led w has =
-      led_then Handled (Holds P) (Holds P) (checked orphan_fault) (λ u. flush) w (led_checked Handled (Holds P) orphan_fault w (calm w.own has).handles (λ none. has)) (λ u p. flush_led (checked orphan_fault w).after p)
+module _ (P : SessionState → Type 0) (again : (notes : List Note) (own : SessionState) → P own → P (record own { notes = notes })) (other : (graph : Graph) (own : SessionState) → P own → P (with_graph graph own)) (read : (after : Loading) (own : SessionState) → P own → P (with_loaded after own)) (calm : (own : SessionState) → P own → IsCalm own) where
+  prepared_led : (w : World) → P w.own → P (prepare w).after.own
+  unfolding prepare by_own on_load
+  prepared_led w has = read (read_going w.own.mapping (loading_of w)).after.own w.own has
+
+  loaded_led : (w : World) → P w.own → P (write_loaded w).after.own
+  unfolding write_loaded by_own
+  loaded_led w has =
+      let prepared : Prepared = prepared_of w.own.mapping w.own.graph in
+      keeping.prepared_written P P (λ events own p. again _ own p) (λ rows own p. again _ own p) (λ own p. p) prepared (λ rows keys own p. other (graph_flushed own.mapping prepared rows keys own.graph) own p) w has
+
+  objects_led : (w : World) → P w.own → P (write_objects w).after.own
+  unfolding write_objects
+  objects_led w has = goes (Holds P) prepare (λ u. write_loaded) w (prepared_led w has) (λ u. loaded_led (prepare w).after (prepared_led w has))
+
+  flush_led : (w : World) → P w.own → IsLed Handled (Holds P) (flush w)
+  unfolding flush by_own
+  flush_led w has =
+      guarded Handled (Holds P) write_objects (give_up_to (held_in w.own.graph)) w (objects_led w has) (λ v p. (calm v.own p).handles) (λ v p. gave_up (held_in w.own.graph) v (calm v.own p))
 
   -- what is asked, the flush, and an act behind it
-  acted : {A : Type 0} (asks : World → Run World (Unit {0})) (act : World → Run World A) (w : World) → IsLed Handled (Holds P) (asks w) → ((v : World) → P v.own → Handled (act v).after) → Handled ((asks >>= λ u. (flush_whole >>= λ u. act)) w).after
+  acted : {A : Type 0} (asks : World → Run World (Unit {0})) (act : World → Run World A) (w : World) → IsLed Handled (Holds P) (asks w) → ((v : World) → P v.own → Handled (act v).after) → Handled ((asks >>= λ u. (flush >>= λ u. act)) w).after
   acted asks act w first later =
-      (led_then Handled (Holds P) Handled asks (λ u. flush_whole >>= λ u. act) w first
+      (led_then Handled (Holds P) Handled asks (λ u. flush >>= λ u. act) w first
       (λ u p.
       let v : World = (asks w).after in
-      led_then Handled (Holds P) Handled flush_whole (λ u. act) v (whole_led v p) (λ u q. let done = later (flush_whole v).after q in record { here = done; told = λ a is. done }))).here
+      led_then Handled (Holds P) Handled flush (λ u. act) v (flush_led v p) (λ u q. let done = later (flush v).after q in record { here = done; told = λ a is. done }))).here
 
-pub calm_led : (w : World) → IsCalm w.own → IsLed Handled (Holds IsCalm) (flush_whole w)
-calm_led w calm = whole_led IsCalm calm_noted calm_with (λ own c. c) w calm
+pub calm_led : (w : World) → IsCalm w.own → IsLed Handled (Holds IsCalm) (flush w)
+calm_led w calm = flush_led IsCalm calm_noted calm_with calm_read (λ own c. c) w calm
 
 now_led : (w : World) → Handled w → IsLed Handled (Holds IsCalm) (flush_now w)
 unfolding flush_now
-now_led w handled = led_then Handled (Holds IsCalm) (Holds IsCalm) enter (λ u. flush_whole) w (enter_calm w handled) (λ u calm. calm_led (enter w).after calm)
+now_led w handled = led_then Handled (Holds IsCalm) (Holds IsCalm) enter (λ u. flush) w (enter_calm w handled) (λ u calm. calm_led (enter w).after calm)
 
 pub flush_handled : (w : World) → Handled w → Handled (flush_now w).after
 flush_handled w handled = (now_led w handled).here
@@ -437,7 +474,7 @@ nested_asked w handled =
 
 pub nested_handled : (w : World) → Handled w → Handled (acts.begin_nested w).after
 unfolding acts.begin_nested
-nested_handled w handled = acted IsDeep deep_noted deep_with (λ own d. d.calm) enter_nested begin_savepoint w (nested_asked w handled) begin_handled
+nested_handled w handled = acted IsDeep deep_noted deep_with deep_read (λ own d. d.calm) enter_nested begin_savepoint w (nested_asked w handled) begin_handled
 
 handle_asked : (handle : ℕ) (w : World) → Handled w → IsLed Handled (Holds IsCalm) (check_handle handle w)
 unfolding check_handle
@@ -452,7 +489,7 @@ handle_released handle v calm = ((keeping.place_released IsCalm (λ events own c
 
 pub handle_committed : (handle : ℕ) (w : World) → Handled w → Handled (acts.commit_handle handle w).after
 unfolding acts.commit_handle
-handle_committed handle w handled = acted IsCalm calm_noted calm_with (λ own c. c) (check_handle handle) (release_handle handle) w (handle_asked handle w handled) (handle_released handle)
+handle_committed handle w handled = acted IsCalm calm_noted calm_with calm_read (λ own c. c) (check_handle handle) (release_handle handle) w (handle_asked handle w handled) (handle_released handle)
 
 pub rows_handled : (select : Select) (w : World) → Handled w → Handled (acts.rows select w).after
 unfolding acts.rows
@@ -469,5 +506,5 @@ bulk_asked statement w handled =
 pub bulk_handled : (statement : Bulk) (w : World) → Handled w → Handled (acts.bulk statement w).after
 unfolding acts.bulk
 bulk_handled statement w handled =
-    acted IsCalm calm_noted calm_with (λ own c. c) (statements.enter_bulk statement) (statements.bulk statement) w (bulk_asked statement w handled)
+    acted IsCalm calm_noted calm_with calm_read (λ own c. c) (statements.enter_bulk statement) (statements.bulk statement) w (bulk_asked statement w handled)
     (λ v calm. (keeping.sends_bulk HasHandles noted statement (λ own has. handles_with (graph_reread own.mapping (table_of statement) own.graph) own has)).kept v calm.handles)

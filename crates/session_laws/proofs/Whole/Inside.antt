@@ -16,11 +16,12 @@ use Rattle.session_calls.specs.Parts.{World, checked, fault_if, unless}
 use Rattle.session_calls.specs.Steps.{begin_unless, enter}
 use Rattle.session_calls.proofs.Joining.{goes_itself}
 use Rattle.session_links.specs.Steps.{change_inside, change_link}
-use Rattle.session_acts.specs.Steps.{flush_whole}
+use Rattle.session_acts.specs.Flush.{flush}
 use Rattle.session_acts.proofs.Unwritten.{scope_open}
 use Rattle.session_laws.specs.LinkCalls.{IsLinkCall}
 use Rattle.session_laws.specs.Whole.{IsHale, IsKeyed}
 use Rattle.session_laws.specs.Loads.{IsLoad, loading_of}
+use Rattle.session_laws.specs.Preparing.{PreparationsLeaveReread}
 use Rattle.session_laws.proofs.Sound.Beginning.{entered_open}
 use Rattle.session_laws.proofs.Health.Acts.{FlushLeavesSound, FlushWritesAll, IsInside, IsLed, enter_led, flush_led, some_scopes}
 use Rattle.session_laws.proofs.Health.Programs.{link_tidy}
@@ -30,6 +31,7 @@ use Rattle.session_laws.proofs.Loads.Sessions.{loaded_goes_on}
 use Rattle.session_laws.proofs.Loads.Touched.{filled_scopes}
 use Rattle.session_laws.proofs.Whole.Handled.{calm_led, enter_calm, link_handled}
 use Rattle.session_laws.proofs.Whole.Programs as keyed
+use Rattle.session_laws.proofs.Whole.Reads.{reads_in}
 use Rattle.session_laws.proofs.Whole.Since.{IsKeyedSince, keyed_steps, since_steps}
 
 -- a whole session in its transaction, where no rollback is awaited, that has gone on from a first one
@@ -75,11 +77,11 @@ inside_of first w it = record {
   same = refl;
 }
 
-pub flush_within : FlushLeavesSound → FlushWritesAll → (first : SessionState) (w : World) → IsWithin first w → IsLed IsHale (IsWithin first) (flush_whole w)
-flush_within keeps answers first w it =
-    let v : World = (flush_whole w).after in
-    let healthy = flush_led keeps answers w.own.mapping w (inside_of first w it) in
-    let since : IsKeyedSince first v.own = (keyed.flushes_whole (IsKeyedSince first) (since_steps first)).kept w (record { keyed = it.hale.keyed; same = it.goes }) in
+pub flush_within : PreparationsLeaveReread → FlushLeavesSound → FlushWritesAll → (first : SessionState) (w : World) → IsWithin first w → IsLed IsHale (IsWithin first) (flush w)
+flush_within reads keeps answers first w it =
+    let v : World = (flush w).after in
+    let healthy = flush_led reads keeps answers w.own.mapping w (inside_of first w it) in
+    let since : IsKeyedSince first v.own = keyed.flushes_in (IsKeyedSince first) (since_steps first) w (reads_in reads w it.hale) (record { keyed = it.hale.keyed; same = it.goes }) in
     let here : IsHale v = record { healthy = healthy.here; keyed = since.keyed; handled = (calm_led w (record { handles = it.hale.handled; well = it.awake })).here } in
     record {
       here = here;

@@ -1,11 +1,12 @@
 -- What programs of a session keep of it where each of its steps does, whatever they answer.
-use Rattle.std.proofs.Common.{◌≡◌, ℕ, ◌+◌, zero, suc, Bool, true, false, List, [], ◌∷◌, Option, None, Some, Ok, sym, ap}
+use Rattle.std.proofs.Common.{ℕ, ◌+◌, zero, suc, Bool, true, false, List, [], ◌∷◌, Option, None, Some, Result, Ok, Err}
 use Rattle.std.specs.List.{AllByRecursion}
 use Rattle.base_core.specs.declared.ids.ObjId.{ObjId}
 use Rattle.base_core.specs.declared.ids.TableId.{TableId}
 use Rattle.base_core.specs.declared.refusal.Refusal.{Refusal}
 use Rattle.base_core.specs.declared.value.Value.{Value}
 use Rattle.schema_core.specs.Catalog.{Catalog}
+use Rattle.schema_core.specs.declared.changes.Planned.{Planned}
 use Rattle.schema_core.specs.declared.changes.RowChanges.{RowChanges}
 use Rattle.expr_types.specs.declared.select.Bulk.{Bulk}
 use Rattle.expr_types.specs.declared.select.Select.{Select}
@@ -15,7 +16,7 @@ use Rattle.table_laws.specs.Legality.{Keeps}
 use Rattle.table_laws.proofs.EachJoin.{keeps_each, keeps_give, keeps_refuse, keeps_then}
 use Rattle.object_rows.specs.declared.prepared.Prepared.{Prepared}
 use Rattle.session_statements.specs.Run.{send_plan}
-use Rattle.keeper_core.specs.Programs.{Event, Run, ◌>>=◌, ask, each, give}
+use Rattle.keeper_core.specs.Programs.{Event, Run, ◌>>=◌, ask, continue_from, each, give}
 use Rattle.keeper_core.specs.Beside.{by_own, changes, on_own, on_store}
 use Rattle.keeper_core.specs.Store.{Store}
 use Rattle.row_project.specs.Changes.{project}
@@ -26,13 +27,14 @@ use Rattle.session_calls.specs.Parts.{World, checked, unless}
 use Rattle.session_calls.specs.Steps.{close, enter, roll_back_if}
 use Rattle.session_acts.specs.Savepoints.{release_many, release_one, release_place}
 use Rattle.session_objects.specs.Conflicts.{add_fault}
-use Rattle.session_objects.specs.Steps.{add, add_inside}
+use Rattle.session_objects.specs.Leaving.{expunge_fault, session_expunged}
+use Rattle.session_objects.specs.Steps.{add, add_inside, expunge, expunge_inside}
 use Rattle.session_objects.specs.Taking.{session_added}
 use Rattle.session_statements.specs.Rewriting.{session_reread}
 use Rattle.session_statements.specs.Steps as statements
 use Rattle.session_tables.specs.declared.tables.TableChange.{TableChange}
 use Rattle.session_tables.specs.Steps.{change_all, change_in_store, change_one, order_for, transaction_fault}
-use Rattle.session_acts.specs.Flush.{prepare, prepared_of, session_flushed, write_objects, write_prepared, write_rows, write_warned}
+use Rattle.session_acts.specs.Flush.{session_flushed, write_prepared, write_rows, write_warned}
 use Rattle.session_laws.proofs.Flushes.Kept.{IsKeptByWrites, plan_keeps}
 
 -- the session of a world has a property
@@ -77,6 +79,12 @@ module _ (P : SessionState → Type 0) (notes : (events : List Event) (own : Ses
       joined enter (λ u. add_inside object) entered
       (λ u. joined (checked (add_fault object)) (λ u. changes (session_added object)) (asked (add_fault object)) (λ u. changed (session_added object) stays))
 
+  pub expunges : Keeps (Holds P) enter → (object : ObjId) → ((own : SessionState) → P own → P (session_expunged object own)) → Keeps (Holds P) (expunge object)
+  unfolding expunge
+  expunges entered object stays =
+      joined enter (λ u. expunge_inside object) entered
+      (λ u. joined (checked (expunge_fault object)) (λ u. changes (session_expunged object)) (asked (expunge_fault object)) (λ u. changed (session_expunged object) stays))
+
   one_table : (change : TableChange) (table : TableId) (u : Unit {0}) → Keeps (Holds P) (change_one change table u)
   unfolding change_one
   one_table change table u = joined (on_store with_notes (change_in_store change table)) (λ done. give tt) (noted (change_in_store change table)) (λ done. keeps_give (Holds P) tt)
@@ -105,34 +113,11 @@ module _ (P : SessionState → Type 0) (notes : (events : List Event) (own : Ses
 
   -- ---- the rows of a flush
 
-  -- no link is cleared
-  none_cleared : (w : World) (prepared : Prepared) → (prepare w).answer ≡ Ok prepared → prepared.cleared ≡ []
-  unfolding prepare by_own give
-  none_cleared w prepared is = let same : prepared_of w.own.graph ≡ prepared = cc in ap (λ (p : Prepared). p.cleared) (sym same)
-
   writes : (schema : Catalog) → IsKeptByWrites schema (Holds P)
   writes schema statement well = noted (call.write schema statement)
 
-  module _ (warned : (rows : RowChanges) (own : SessionState) → P own → P (with_warnings rows.warnings own)) (flushed : (prepared : Prepared) → prepared.cleared ≡ [] → (rows : RowChanges) (keys : List (List Value)) (own : SessionState) → P own → P (session_flushed prepared rows keys own)) where
-    writes_rows : (prepared : Prepared) → prepared.cleared ≡ [] → (rows : RowChanges) → Keeps (Holds P) (write_rows prepared rows)
-    unfolding write_rows on_own ask
-    writes_rows prepared none rows =
-        joined (on_own (ask (λ session. plan session.mapping.schema rows))) (λ statements. by_own (λ session. send_plan session.mapping.schema rows statements) >>= λ keys. changes (session_flushed prepared rows keys))
-        (record { kept = λ w has. has })
-        (λ statements.
-        joined (by_own (λ session. send_plan session.mapping.schema rows statements)) (λ keys. changes (session_flushed prepared rows keys))
-        (chosen (λ session. send_plan session.mapping.schema rows statements) (λ own. plan_keeps own.mapping.schema rows (Holds P) (writes own.mapping.schema) statements))
-        (λ keys. changed (session_flushed prepared rows keys) (flushed prepared none rows keys)))
-
-    warns : (prepared : Prepared) → prepared.cleared ≡ [] → (rows : RowChanges) → Keeps (Holds P) (write_warned prepared rows)
-    unfolding write_warned
-    warns prepared none rows = joined (changes (with_warnings rows.warnings)) (λ u. write_rows prepared rows) (changed (with_warnings rows.warnings) (warned rows)) (λ u. writes_rows prepared none rows)
-
-    pub writes_objects : Keeps (Holds P) write_objects
-    unfolding write_objects prepare write_prepared
-    writes_objects =
-        keeps_then (Holds P) prepare write_prepared (chosen (λ session. give (prepared_of session.graph)) (λ own. keeps_give (Holds P) (prepared_of own.graph)))
-        (λ w prepared has is. chosen (λ session. write_warned prepared (project session.mapping session.graph prepared)) (λ own. warns prepared (none_cleared w prepared is) (project own.mapping own.graph prepared)))
+  pub sends_plan : (rows : RowChanges) (statements : List Planned) → Keeps (Holds P) (by_own (λ session. send_plan session.mapping.schema rows statements))
+  sends_plan rows statements = chosen (λ session. send_plan session.mapping.schema rows statements) (λ own. plan_keeps own.mapping.schema rows (Holds P) (writes own.mapping.schema) statements)
 
   -- ---- what is done behind it
 
@@ -161,3 +146,35 @@ module _ (P : SessionState → Type 0) (notes : (events : List Event) (own : Ses
       joined (statements.send_bulk statement) (λ count. changes (session_reread table) >>= λ u. give count)
       (chosen (λ session. on_store with_notes (call.bulk session.mapping.schema statement)) (λ own. noted (call.bulk own.mapping.schema statement)))
       (λ count. joined (changes (session_reread table)) (λ u. give count) (changed (session_reread table) reread) (λ u. keeps_give (Holds P) count))
+
+-- ---- one part after another
+
+-- the world of the last part that was run has the property, where each of the two leaves it so
+pub goes : {A B : Type 0} (P : World → Type 0) (m : World → Run World A) (next : A → World → Run World B) (w : World) → P (m w).after → ((a : A) → P (next a (m w).after).after) → P ((m >>= next) w).after
+unfolding ◌>>=◌
+goes {A = A} P m next w here later = by (m w).answer
+  where
+    by : (r : Result A Refusal) → P (continue_from (m w).events (m w).after r next).after
+    by (Ok a) = later a
+    by (Err e) = here
+
+-- what is prepared is written: one property is kept until the objects stand as they were written, and another then
+module _ (Q P : SessionState → Type 0) (notes : (events : List Event) (own : SessionState) → Q own → Q (with_notes events own)) (warned : (rows : RowChanges) (own : SessionState) → Q own → Q (with_warnings rows.warnings own)) (still : (own : SessionState) → Q own → P own) (prepared : Prepared) (flushed : (rows : RowChanges) (keys : List (List Value)) (own : SessionState) → Q own → P (session_flushed prepared rows keys own)) where
+  rows_written : (rows : RowChanges) (w : World) → Q w.own → P (write_rows prepared rows w).after.own
+  unfolding write_rows on_own ask changes
+  rows_written rows w has =
+      goes (Holds P) (on_own (ask (λ session. plan session.mapping.schema rows))) (λ statements. by_own (λ session. send_plan session.mapping.schema rows statements) >>= λ keys. changes (session_flushed prepared rows keys)) w (still w.own has)
+      (λ statements.
+      let v : World = (by_own (λ session. send_plan session.mapping.schema rows statements) w).after in
+      let sent : Q v.own = (sends_plan Q notes rows statements).kept w has in
+      goes (Holds P) (by_own (λ session. send_plan session.mapping.schema rows statements)) (λ keys. changes (session_flushed prepared rows keys)) w (still v.own sent) (λ keys. flushed rows keys v.own sent))
+
+  warned_written : (rows : RowChanges) (w : World) → Q w.own → P (write_warned prepared rows w).after.own
+  unfolding write_warned changes
+  warned_written rows w has =
+      let told : Q (with_warnings rows.warnings w.own) = warned rows w.own has in
+      goes (Holds P) (changes (with_warnings rows.warnings)) (λ u. write_rows prepared rows) w (still (with_warnings rows.warnings w.own) told) (λ u. rows_written rows (changes (with_warnings rows.warnings) w).after told)
+
+  pub prepared_written : (w : World) → Q w.own → P (write_prepared prepared w).after.own
+  unfolding write_prepared by_own
+  prepared_written w has = warned_written (project w.own.mapping w.own.graph prepared) w has

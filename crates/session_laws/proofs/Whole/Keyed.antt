@@ -1,9 +1,9 @@
 -- What becomes of a session leaves its objects fitting, and their keys at the start of each scope.
-use Rattle.std.proofs.Common.{◌≡◌, ℕ, ◌+◌, ◌-◌, ◌<◌, Bool, true, false, List, [], ◌∷◌, drop, length, get_or, Option, None, Some, Ok, Err, refl, sym, ap, ◌∙◌, subst, arith}
+use Rattle.std.proofs.Common.{◌≡◌, ℕ, ◌+◌, ◌-◌, ◌<◌, ◌≤◌, Bool, true, false, List, [], ◌∷◌, ◌++◌, append_assoc, drop, length, get_or, Option, None, Some, Ok, Err, ⊎_elim, refl, sym, ap, ◌∙◌, subst, arith}
 use Rattle.std.specs.Prelude.{if◌then◌else◌, nat_lt}
 use Rattle.std.specs.List.{All, AllByRecursion}
-use Rattle.std.proofs.lemmas.Bool.{and_from, and_parts}
-use Rattle.std.proofs.lemmas.List.{get_or_at}
+use Rattle.std.proofs.lemmas.Bool.{and_from, and_parts, cases_lt}
+use Rattle.std.proofs.lemmas.List.{append-nil, get_or_at}
 use Rattle.std.proofs.lemmas.List.Elements.{All-cons, All-nil, recursion_from_All}
 use Rattle.base_core.specs.Counts.{one_more}
 use Rattle.base_core.specs.declared.ids.AttrNo.{AttrNo}
@@ -24,12 +24,16 @@ use Rattle.object_arena.specs.declared.object.Cell.{Cell}
 use Rattle.object_arena.specs.declared.object.Object.{Object}
 use Rattle.object_arena.specs.declared.object.State.{State}
 use Rattle.object_arena.specs.declared.object.State.TheVariants.{Transient, Pending, Persistent, Deleted, Detached}
-use Rattle.object_arena.specs.Fit.{IsFit, cell_fits, is_of_kind, value_fits}
+use Rattle.object_arena.specs.Every.{classes_of}
+use Rattle.object_arena.specs.Fit.{IsFit, cell_fits, is_of_kind, links_fit, value_fits}
 use Rattle.object_arena.specs.Graph.{Graph, cell_in, cell_put, either_fault, expired_object, fresh_object, key_fault, make, no_object, object_at, object_limit, place_of, value_fault, with_fresh, with_object, with_value}
 use Rattle.object_arena.proofs.FitLemmas.{fit_fresh}
+use Rattle.object_arena.proofs.LinkLemmas.{links_grown}
 use Rattle.object_arena.proofs.PartLemmas.{pointwise_at, pointwise_set}
 use Rattle.object_rows.specs.declared.prepared.Prepared.{Prepared}
+use Rattle.graph_flushed.specs.Fitting.{AreClearable}
 use Rattle.graph_flushed.specs.Flushed.{graph_flushed, written_with}
+use Rattle.load_filling.specs.Growing.{Grows}
 use Rattle.savepoints.specs.Scopes.{HasKeys, begun_at, scope_released}
 use Rattle.savepoints.proofs.KeyLemmas.{all_kept, all_made, keys_begun, keys_left}
 use Rattle.session_parts.specs.Ends.{object_committed, object_left, object_unmarked}
@@ -46,8 +50,10 @@ use Rattle.session_laws.proofs.Sound.Touches.{between_scopes}
 use Rattle.session_laws.proofs.Calls.Making.{made}
 use Rattle.session_laws.proofs.Health.Fits.{classes_written, flushed_fit}
 use Rattle.session_laws.proofs.Health.Objects.{class_left}
+use Rattle.session_laws.specs.Scopes.{object_in}
 use Rattle.session_laws.specs.Whole.{IsKeyed}
-use Rattle.session_laws.proofs.Whole.Refit.{FitsIn, IsRefit, committed_class, committed_fits, expired_fits, fits_each, left_fits, refit_all, refit_with, restored_refit}
+use Rattle.session_laws.proofs.Flushes.GivenBack.{IsGivenBack}
+use Rattle.session_laws.proofs.Whole.Refit.{FitsIn, IsRefit, committed_class, committed_fits, expired_fits, fits_each, left_fits, refit, refit_all, refit_with, restored_refit}
 
 -- ---- other objects
 
@@ -200,10 +206,38 @@ added_keyed object own keyed =
 
 -- ---- the objects were written, or are to be read again
 
-pub flushed_keyed : (prepared : Prepared) → prepared.cleared ≡ [] → (rows : RowChanges) (keys : List (List Value)) (own : SessionState) → IsKeyed own → IsKeyed (session_flushed prepared rows keys own)
-flushed_keyed prepared none rows keys own keyed =
+pub flushed_keyed : (prepared : Prepared) (rows : RowChanges) (keys : List (List Value)) (own : SessionState) → AreClearable own.mapping own.graph prepared → IsKeyed own → IsKeyed (session_flushed prepared rows keys own)
+flushed_keyed prepared rows keys own clearable keyed =
     graph_keyed (graph_flushed own.mapping prepared rows keys own.graph) own
-    (record { fit = flushed_fit own.mapping own.graph prepared rows keys keyed.well none keyed.fit; same = classes_written (written_with own.mapping prepared rows keys own.graph) }) keyed
+    (record { fit = flushed_fit own.mapping own.graph prepared rows keys keyed.well clearable keyed.fit; same = classes_written (written_with own.mapping prepared rows keys own.graph) }) keyed
+
+-- ---- what was read is given back
+
+-- links that fit go on to fit where more objects were made
+links_longer : (mapped : Mapped) (roots more : List ClassId) (o : Object) → links_fit mapped roots o ≡ true → links_fit mapped (roots ++ more) o ≡ true
+links_longer mapped roots [] o fits = ap (λ (all : List ClassId). links_fit mapped all o) (append-nil roots) ∙ fits
+links_longer mapped roots (root ∷ more) o fits =
+    ap (λ (all : List ClassId). links_fit mapped all o) (sym (append_assoc roots (root ∷ []) more)) ∙ links_longer mapped (roots ++ root ∷ []) more o (links_grown mapped roots root o fits)
+
+fits_longer : (mapped : Mapped) (old mid : Graph) (o : Object) → Grows old mid → FitsIn mapped old.roots o → FitsIn mapped mid.roots o
+unfolding classes_of
+fits_longer mapped old mid o grows fits = record {
+  own = fits.own;
+  links = ap (λ (all : List ClassId). links_fit mapped all o) grows.rooted ∙ links_longer mapped old.roots grows.roots o fits.links;
+}
+
+pub given_keyed : (before own : SessionState) (back : Graph) → own.mapping ≡ before.mapping → IsGivenBack before.graph own.graph back → IsKeyed before → IsKeyed own → IsKeyed (record own { graph = back })
+given_keyed before own back same given was keyed =
+    let fit : IsFit own.mapping before.graph = subst (λ (mapped : Mapped). IsFit mapped before.graph) (sym same) was.fit in
+    let change : IsRefit own.mapping own.graph back =
+    refit own.mapping own.graph back keyed.fit given.same given.roots
+    (λ place less.
+    let inside : place < length own.graph.objects = omega (arith, less, given.long) in
+    ⊎_elim
+    (λ (there : place < length before.graph.objects). subst (FitsIn own.mapping own.graph.roots) (sym (given.there place there)) (fits_longer own.mapping before.graph own.graph (object_in before.graph place) given.grows (fits_each own.mapping before.graph fit place there)))
+    (λ (past : length before.graph.objects ≤ place). subst (FitsIn own.mapping own.graph.roots) (sym (given.since place past inside)) (fits_each own.mapping own.graph keyed.fit place inside))
+    (cases_lt place (length before.graph.objects))) in
+    record { well = keyed.well; fit = change.fit; keys = all_kept own.mapping own.graph back own.frames.scopes change.same keyed.keys }
 
 if_fits : (mapped : Mapped) (roots : List ClassId) (is_read : Bool) (o : Object) → FitsIn mapped roots o → FitsIn mapped roots (expired_if is_read o)
 if_fits mapped roots true o fits = expired_fits mapped roots o fits

@@ -44,9 +44,10 @@ use Rattle.session_calls.specs.Steps.{begin_unless, close, delete, enter, go_bac
 use Rattle.session_acts.specs.Flush.{flush}
 use Rattle.session_acts.specs.Savepoints.{begin_savepoint, check_handle, commit_transaction, commit_whole, enter_nested, handle_fault, limit_fault, release_handle, release_many, release_one, release_place}
 use Rattle.session_acts.specs.Steps as acts
-use Rattle.session_acts.specs.Steps.{IsPlainButForKeys, flush_now, flush_whole, orphan_fault}
+use Rattle.session_acts.specs.Steps.{IsPlainButForKeys, flush_now}
 use Rattle.session_objects.specs.Conflicts.{add_fault}
-use Rattle.session_objects.specs.Steps.{add, add_inside}
+use Rattle.session_objects.specs.Leaving.{expunge_fault, session_expunged}
+use Rattle.session_objects.specs.Steps.{add, add_inside, expunge, expunge_inside}
 use Rattle.session_objects.specs.Taking.{session_added}
 use Rattle.session_objects.specs.ValueSteps.{cell_kept, given_fault, made_unless, set_inside, set_judged, set_valid, valid_made, value_invalid}
 use Rattle.session_links.specs.Linking.{change_fault, coming_along, session_by, session_changed, session_linked, session_orphaned, session_put}
@@ -59,6 +60,7 @@ use Rattle.session_tables.specs.Steps.{change_all, change_one, order_for, transa
 use Rattle.session_tables.proofs.Orders.{order_declared}
 use Rattle.session_laws.specs.Health.Calls.{Call, after_call, after_calls}
 use Rattle.session_laws.specs.Whole.{AreCallsOf, CallsKeepLegal, IsCallOf}
+use Rattle.session_laws.proofs.Calls.Leaving.{expunged_same}
 use Rattle.session_laws.proofs.Flushes.Legal.{IsLegalWorld, changed_keeps, chosen_keeps, flush_keeps, noted_keeps, scope_keeps}
 use Rattle.session_laws.proofs.Health.Acts.{IsLed, led_checked, led_then}
 use Rattle.session_laws.proofs.TableCalls.Dropping.{dropped_store}
@@ -189,6 +191,12 @@ module _ (schema : Catalog) where
       joined enter (λ u. add_inside object) enters
       (λ u. joined (checked (add_fault object)) (λ u. changes (session_added object)) (asked (add_fault object)) (λ u. changed (session_added object) (λ own. (added_same object own).mapping)))
 
+  expunges : (object : ObjId) → Keeps P (expunge object)
+  unfolding expunge
+  expunges object =
+      joined enter (λ u. expunge_inside object) enters
+      (λ u. joined (checked (expunge_fault object)) (λ u. changes (session_expunged object)) (asked (expunge_fault object)) (λ u. changed (session_expunged object) (λ own. (expunged_same object own).mapping)))
+
   links : (owner : ObjId) (place : RelNo) (call : LinkCall) → Keeps P (change_link owner place call)
   unfolding change_link
   links owner place call =
@@ -273,13 +281,9 @@ module _ (schema : Catalog) where
 
   -- ---- the flush, and acts behind it
 
-  flushes_whole : Keeps P flush_whole
-  unfolding flush_whole
-  flushes_whole = joined (checked orphan_fault) (λ u. flush) (asked orphan_fault) (λ u. flush_keeps schema)
-
   pub flushes : Keeps P flush_now
   unfolding flush_now
-  flushes = joined enter (λ u. flush_whole) enters (λ u. flushes_whole)
+  flushes = joined enter (λ u. flush) enters (λ u. flush_keeps schema)
 
   one_released : Keeps P release_one
   unfolding release_one
@@ -306,9 +310,9 @@ module _ (schema : Catalog) where
   begins_nested : Keeps P acts.begin_nested
   unfolding acts.begin_nested enter_nested begin_savepoint
   begins_nested =
-      joined enter_nested (λ u. flush_whole >>= λ u. begin_savepoint) (joined enter (λ u. checked limit_fault) enters (λ u. asked limit_fault))
+      joined enter_nested (λ u. flush >>= λ u. begin_savepoint) (joined enter (λ u. checked limit_fault) enters (λ u. asked limit_fault))
       (λ u.
-      joined flush_whole (λ u. begin_savepoint) flushes_whole
+      joined flush (λ u. begin_savepoint) (flush_keeps schema)
       (λ u.
       joined (on_store with_notes call.savepoint) (λ u. changes session_nested >>= λ u. by_own (λ session. give session.drawn.drawn)) (noted call.savepoint (keeps_savepoint (AreSound schema)))
       (λ u. joined (changes session_nested) (λ u. by_own (λ session. give session.drawn.drawn)) (changed session_nested (λ own. refl)) (λ u. chosen (λ session. give session.drawn.drawn) (λ own is. keeps_give P own.drawn.drawn)))))
@@ -316,9 +320,9 @@ module _ (schema : Catalog) where
   commits_handle : (handle : ℕ) → Keeps P (acts.commit_handle handle)
   unfolding acts.commit_handle check_handle release_handle
   commits_handle handle =
-      joined (check_handle handle) (λ u. flush_whole >>= λ u. release_handle handle) (joined (checked pending_fault) (λ u. checked (handle_fault handle)) (asked pending_fault) (λ u. asked (handle_fault handle)))
+      joined (check_handle handle) (λ u. flush >>= λ u. release_handle handle) (joined (checked pending_fault) (λ u. checked (handle_fault handle)) (asked pending_fault) (λ u. asked (handle_fault handle)))
       (λ u.
-      joined flush_whole (λ u. release_handle handle) flushes_whole
+      joined flush (λ u. release_handle handle) (flush_keeps schema)
       (λ u. chosen (λ session. release_place (place_of_handle session.drawn handle)) (λ own is. place_released (place_of_handle own.drawn handle))))
 
   asks_rows : (select : Select) → Keeps P (acts.rows select)
@@ -354,9 +358,9 @@ module _ (schema : Catalog) where
     writes : IsPlainButForKeys schema statement → (w : World) → P w → P (acts.bulk statement w).after
     unfolding acts.bulk
     writes plain w p =
-        (led_then P IsPlain P (statements.enter_bulk statement) (λ u. flush_whole >>= λ u. statements.bulk statement) w (asks_plain plain w p)
+        (led_then P IsPlain P (statements.enter_bulk statement) (λ u. flush >>= λ u. statements.bulk statement) w (asks_plain plain w p)
         (λ u both.
-        let done = (joined flush_whole (λ u. statements.bulk statement) flushes_whole (λ u. sends both.1)).kept (statements.enter_bulk statement w).after both.0 in
+        let done = (joined flush (λ u. statements.bulk statement) (flush_keeps schema) (λ u. sends both.1)).kept (statements.enter_bulk statement w).after both.0 in
         record { here = done; told = λ u is. done })).here
 
   -- ---- every call
@@ -367,6 +371,7 @@ module _ (schema : Catalog) where
     call_legal (Call.Add object) w of legal = (adds object).kept w legal
     call_legal (Call.Set object attr value) w of legal = (sets rules object attr value).kept w legal
     call_legal (Call.Delete object) w of legal = (deletes object).kept w legal
+    call_legal (Call.Expunge object) w of legal = (expunges object).kept w legal
     call_legal (Call.ChangeLink owner place call) w of legal = (links owner place call).kept w legal
     call_legal Call.Flush w of legal = flushes.kept w legal
     call_legal Call.Commit w of legal = commits.kept w legal

@@ -1,5 +1,5 @@
 -- What each step of a session keeps of it, the programs of its calls keep, whatever they answer.
-use Rattle.std.proofs.Common.{◌≡◌, ℕ, ◌+◌, ◌-◌, Bool, true, false, not, ◌&&◌, ◌==◌, List, [], length, Option, None, Some, sym, subst}
+use Rattle.std.proofs.Common.{◌≡◌, ℕ, ◌+◌, ◌-◌, Bool, true, false, not, ◌&&◌, ◌==◌, List, length, Option, None, Some, Result, Ok, Err, refl, sym, ◌∙◌, subst}
 use Rattle.base_core.specs.declared.ids.AttrNo.{AttrNo}
 use Rattle.base_core.specs.declared.ids.ObjId.{ObjId}
 use Rattle.base_core.specs.declared.ids.RelNo.{RelNo}
@@ -9,30 +9,37 @@ use Rattle.base_core.specs.declared.value.Value.{Value}
 use Rattle.schema_core.specs.declared.changes.RowChanges.{RowChanges}
 use Rattle.class_types.specs.Rules.{Rules}
 use Rattle.class_mapping.specs.Mapped.{IsAttribute, Mapped}
+use Rattle.class_mapping.specs.Paired.{HasPairs}
 use Rattle.expr_types.specs.declared.select.Bulk.{Bulk}
 use Rattle.expr_types.specs.declared.select.Select.{Select}
 use Rattle.keeper_core.specs.Calls as call
 use Rattle.table_laws.specs.Legality.{Keeps}
-use Rattle.table_laws.proofs.EachJoin.{keeps_give, keeps_guarded, keeps_refuse}
+use Rattle.table_laws.proofs.EachJoin.{keeps_give, keeps_refuse}
 use Rattle.load_filling.specs.Growing.{Grows}
 use Rattle.load_rows.specs.Loading.{Loading}
 use Rattle.object_arena.specs.Fit.{IsFit}
 use Rattle.object_arena.specs.Graph.{Graph, object_at, value_fault}
 use Rattle.object_rows.specs.declared.prepared.Prepared.{Prepared}
-use Rattle.keeper_core.specs.Programs.{Event, Run, ◌>>=◌, give}
+use Rattle.object_records.specs.Kept.{given_back, held_in}
+use Rattle.graph_flushed.specs.Fitting.{AreClearable}
+use Rattle.prepared_objects.specs.Leaving.{prepared_of}
+use Rattle.load_preparing.specs.Preparing.{read_going}
+use Rattle.keeper_core.specs.Programs.{Event, Run, ◌>>=◌, give, refuse, undo_on_refusal, with_undo}
 use Rattle.keeper_core.specs.Beside.{Beside, by_own, changes, on_own, on_store}
 use Rattle.keeper_core.specs.Store.{Store}
 use Rattle.relations.specs.declared.calls.LinkCall.{LinkCall}
 use Rattle.sql_semantics.specs.Applied.{table_of}
 use Rattle.session_scopes.specs.Changes.{deletion_marked, value_put}
 use Rattle.session_scopes.specs.Handles.{place_of_handle}
+use Rattle.session_scopes.specs.Keeping.{session_given_back}
 use Rattle.session_scopes.specs.Loads.{on_load, with_loaded}
 use Rattle.session_scopes.specs.Scoping.{session_begun, session_closed, session_committed, session_failed, session_nested, session_released, session_restored, session_rolled_back}
 use Rattle.session_scopes.specs.SessionState.{SessionState, in_transaction, with_notes, with_warnings}
 use Rattle.session_calls.specs.Parts.{World, checked, go_back, roll_back_scope}
 use Rattle.session_calls.specs.Steps.{begin_unless, close, delete, enter, go_back_if, pending_fault, roll_back_place, rollback, rollback_handle, set_cell, set_fitting}
 use Rattle.session_acts.specs.Savepoints.{begin_savepoint, check_handle, commit_transaction, commit_whole, enter_nested, handle_fault, limit_fault, release_handle, release_many, release_place}
-use Rattle.session_objects.specs.Steps.{add}
+use Rattle.session_objects.specs.Leaving.{session_expunged}
+use Rattle.session_objects.specs.Steps.{add, expunge}
 use Rattle.session_objects.specs.Taking.{session_added}
 use Rattle.session_links.specs.Linking.{change_fault, session_changed}
 use Rattle.session_links.specs.Steps.{change_inside, change_link}
@@ -42,14 +49,19 @@ use Rattle.session_statements.specs.Rewriting.{session_reread}
 use Rattle.session_statements.specs.Steps as statements
 use Rattle.session_tables.specs.declared.tables.TableChange.{TableChange}
 use Rattle.session_tables.specs.Steps.{change_all}
-use Rattle.session_acts.specs.Flush.{flush, give_up, session_flushed, write_objects}
+use Rattle.session_acts.specs.Flush.{flush, give_up, give_up_to, prepare, session_flushed, write_loaded, write_objects}
 use Rattle.session_acts.specs.Steps as acts
-use Rattle.session_acts.specs.Steps.{flush_now, flush_whole, orphan_fault}
+use Rattle.session_acts.specs.Steps.{flush_now}
+use Rattle.session_acts.proofs.Clearing.{clearable}
+use Rattle.session_laws.specs.Flushes.{prepared_world}
+use Rattle.session_laws.proofs.Flushes.GivenBack.{IsGivenBack, given_read}
+use Rattle.session_laws.proofs.Flushes.Reading.{IsReadWell, prepare_mapping}
+use Rattle.session_laws.proofs.SoundFlushes.Refused.{IsUnmoved, objects_refused}
 use Rattle.session_laws.proofs.Sound.Beginning.{entered_graph, entered_mapping}
 use Rattle.session_objects.specs.ValueSteps.{cell_kept, set_inside, set_judged, set_valid, value_invalid}
 use Rattle.session_laws.proofs.Health.Acts.{led_checked, led_then}
 use Rattle.session_laws.proofs.Whole.Keeping as keeping
-use Rattle.session_laws.proofs.Whole.Keeping.{Holds}
+use Rattle.session_laws.proofs.Whole.Keeping.{Holds, goes}
 
 -- what becomes of a session in its steps has a property of it
 pub record AreSteps (P : SessionState → Type 0) : Type 0 where
@@ -63,9 +75,12 @@ pub record AreSteps (P : SessionState → Type 0) : Type 0 where
   pub rolled : (count : ℕ) (own : SessionState) → P own → P (session_rolled_back count own)
   pub committed : (own : SessionState) → P own → P (session_committed own)
   pub closed : (own : SessionState) → P own → P (session_closed own)
-  pub flushed : (prepared : Prepared) → prepared.cleared ≡ [] → (rows : RowChanges) (keys : List (List Value)) (own : SessionState) → P own → P (session_flushed prepared rows keys own)
+  pub pairs : (own : SessionState) → P own → HasPairs own.mapping
+  pub flushed : (prepared : Prepared) (rows : RowChanges) (keys : List (List Value)) (own : SessionState) → AreClearable own.mapping own.graph prepared → P own → P (session_flushed prepared rows keys own)
+  pub given : (before own : SessionState) (back : Graph) → own.mapping ≡ before.mapping → IsGivenBack before.graph own.graph back → P before → P own → P (record own { graph = back })
   pub reread : (table : TableId) (own : SessionState) → P own → P (session_reread table own)
   pub added : (object : ObjId) (own : SessionState) → P own → P (session_added object own)
+  pub expunged : (object : ObjId) (own : SessionState) → P own → P (session_expunged object own)
   pub linked : (owner : ObjId) (place : RelNo) (call : LinkCall) (own : SessionState) → IsLinkCall own.mapping own.graph owner place call → P own → P (session_changed owner place call own)
   pub marked : (object : ObjId) (own : SessionState) → P own → P (deletion_marked object own).after
   pub put : (object : ObjId) (attr : AttrNo) (value : Value) (own : SessionState) → IsAttribute own.mapping (object_at own.graph object).class attr → value_fault own.mapping (object_at own.graph object) attr value ≡ None → P own → P (value_put object attr value own).after
@@ -108,6 +123,9 @@ module _ (P : SessionState → Type 0) (steps : AreSteps P) where
   pub adds : (object : ObjId) → Keeps (Holds P) (add object)
   adds object = keeping.adds P steps.notes enters object (steps.added object)
 
+  pub expunges : (object : ObjId) → Keeps (Holds P) (expunge object)
+  expunges object = keeping.expunges P steps.notes enters object (steps.expunged object)
+
   pub changes_tables : (change : TableChange) → Keeps (Holds P) (change_all change)
   changes_tables change = keeping.tables P steps.notes change
 
@@ -148,8 +166,20 @@ module _ (P : SessionState → Type 0) (steps : AreSteps P) where
 
   -- ---- the flush
 
-  objects_written : Keeps (Holds P) write_objects
-  objects_written = keeping.writes_objects P steps.notes steps.warned steps.flushed
+  loaded_written : (w : World) → P w.own → P (write_loaded w).after.own
+  unfolding write_loaded by_own
+  loaded_written w has =
+      let prepared : Prepared = prepared_of w.own.mapping w.own.graph in
+      keeping.prepared_written (λ own. P own × AreClearable own.mapping own.graph prepared) P (λ events own p. (steps.notes events own p.0, p.1)) (λ rows own p. (steps.warned rows own p.0, p.1)) (λ own p. p.0) prepared
+      (λ rows keys own p. steps.flushed prepared rows keys own p.1 p.0) w (has, clearable w.own.mapping w.own.graph (steps.pairs w.own has))
+
+  prepared_well : (w : World) → IsReadWell w → P w.own → P (prepare w).after.own
+  unfolding prepare by_own
+  prepared_well w well has = loads (read_going w.own.mapping) w well.loads.fit well.loads.grows has
+
+  objects_written : (w : World) → IsReadWell w → P w.own → P (write_objects w).after.own
+  unfolding write_objects
+  objects_written w well has = goes (Holds P) prepare (λ u. write_loaded) w (prepared_well w well has) (λ u. loaded_written (prepare w).after (prepared_well w well has))
 
   gives_up : Keeps (Holds P) give_up
   unfolding give_up
@@ -158,56 +188,85 @@ module _ (P : SessionState → Type 0) (steps : AreSteps P) where
       (λ own. joined (on_store with_notes (roll_back_scope (length own.frames.scopes))) (λ u. changes session_failed) (noted (roll_back_scope (length own.frames.scopes)))
       (λ u. changed session_failed steps.failed))
 
-  pub flushes_whole : Keeps (Holds P) flush_whole
-  unfolding flush_whole flush
-  flushes_whole = joined (checked orphan_fault) (λ u. flush) (asked orphan_fault) (λ u. keeps_guarded (Holds P) write_objects give_up objects_written gives_up)
+  -- what was read is given back first
+  gives_back : (w v : World) → IsReadWell w → IsUnmoved (prepared_world w) v → P w.own → P v.own → P (give_up_to (held_in w.own.graph) v).after.own
+  unfolding give_up_to changes
+  gives_back w v well same has there =
+      goes (Holds P) (changes (session_given_back (held_in w.own.graph))) (λ u. give_up) v given (λ u. gives_up.kept (record { own = session_given_back (held_in w.own.graph) v.own; store = v.store }) given)
+    where
+      given : P (session_given_back (held_in w.own.graph) v.own)
+      given =
+          steps.given w.own v.own (given_back (held_in w.own.graph) v.own.graph) (same.mapping ∙ prepare_mapping w)
+          (subst (λ (graph : Graph). IsGivenBack w.own.graph graph (given_back (held_in w.own.graph) graph)) (sym same.graph) (given_read w well)) has there
 
-  pub flushes : Keeps (Holds P) flush_now
+  -- where what is read before it is read as loads read
+  pub flushes_in : (w : World) → IsReadWell w → P w.own → P (flush w).after.own
+  unfolding flush with_undo by_own refuse
+  flushes_in w well has = by (write_objects w).answer refl
+    where
+      there : P (write_objects w).after.own
+      there = objects_written w well has
+
+      by : (r : Result (Unit {0}) Refusal) → (write_objects w).answer ≡ r → P (undo_on_refusal (write_objects w).events (write_objects w).after r (give_up_to (held_in w.own.graph))).after.own
+      by (Ok u) is = there
+      by (Err e) is =
+          let v : World = (write_objects w).after in
+          let back : P (give_up_to (held_in w.own.graph) v).after.own = gives_back w v well (objects_refused w e is) has there in
+          goes (Holds P) (give_up_to (held_in w.own.graph)) (λ u. refuse {A = Unit {0}} e) v back (λ u. back)
+
+  pub flushes : (w : World) → IsReadWell (enter w).after → P w.own → P (flush_now w).after.own
   unfolding flush_now
-  flushes = joined enter (λ u. flush_whole) enters (λ u. flushes_whole)
+  flushes w well has = goes (Holds P) enter (λ u. flush) w (enters.kept w has) (λ u. flushes_in (enter w).after well (enters.kept w has))
 
   -- ---- acts behind it
 
   releases_many : (count : ℕ) → Keeps (Holds P) (release_many count)
   releases_many count = keeping.releases P steps.notes steps.released count
 
-  pub commits : Keeps (Holds P) acts.commit
-  unfolding acts.commit commit_whole commit_transaction
-  commits =
-      joined flush_now (λ u. commit_whole) flushes
-      (λ u.
+  commits_whole : Keeps (Holds P) commit_whole
+  unfolding commit_whole commit_transaction
+  commits_whole =
       chosen (λ session. release_many (length session.drawn.handles) >>= λ u. commit_transaction)
       (λ own. joined (release_many (length own.drawn.handles)) (λ u. commit_transaction) (releases_many (length own.drawn.handles))
-      (λ u. joined (on_store with_notes call.commit) (λ u. changes session_committed) (noted call.commit) (λ u. changed session_committed steps.committed))))
+      (λ u. joined (on_store with_notes call.commit) (λ u. changes session_committed) (noted call.commit) (λ u. changed session_committed steps.committed)))
 
-  pub begins_nested : Keeps (Holds P) acts.begin_nested
-  unfolding acts.begin_nested enter_nested begin_savepoint
-  begins_nested =
-      joined enter_nested (λ u. flush_whole >>= λ u. begin_savepoint) (joined enter (λ u. checked limit_fault) enters (λ u. asked limit_fault))
-      (λ u.
-      joined flush_whole (λ u. begin_savepoint) flushes_whole
-      (λ u.
+  pub commits : (w : World) → IsReadWell (enter w).after → P w.own → P (acts.commit w).after.own
+  unfolding acts.commit
+  commits w well has = goes (Holds P) flush_now (λ u. commit_whole) w (flushes w well has) (λ u. commits_whole.kept (flush_now w).after (flushes w well has))
+
+  pub asks_rows : (select : Select) (w : World) → IsReadWell (enter w).after → P w.own → P (acts.rows select w).after.own
+  unfolding acts.rows
+  asks_rows select w well has =
+      goes (Holds P) flush_now (λ u. statements.rows select) w (flushes w well has) (λ u. (keeping.asks_rows P steps.notes select).kept (flush_now w).after (flushes w well has))
+
+  -- what is asked, the flush, and an act
+  acted : {A : Type 0} (asks : World → Run World (Unit {0})) (act : World → Run World A) → Keeps (Holds P) asks → Keeps (Holds P) act → (w : World) → IsReadWell (asks w).after → P w.own → P ((asks >>= λ u. (flush >>= λ u. act)) w).after.own
+  acted asks act first later w well has =
+      let v : World = (asks w).after in
+      let there : P v.own = first.kept w has in
+      goes (Holds P) asks (λ u. flush >>= λ u. act) w there (λ u. goes (Holds P) flush (λ u. act) v (flushes_in v well there) (λ u. later.kept (flush v).after (flushes_in v well there)))
+
+  begins : Keeps (Holds P) begin_savepoint
+  unfolding begin_savepoint
+  begins =
       joined (on_store with_notes call.savepoint) (λ u. changes session_nested >>= λ u. by_own (λ session. give session.drawn.drawn)) (noted call.savepoint)
-      (λ u. joined (changes session_nested) (λ u. by_own (λ session. give session.drawn.drawn)) (changed session_nested steps.nested) (λ u. chosen (λ session. give session.drawn.drawn) (λ own. keeps_give (Holds P) own.drawn.drawn)))))
+      (λ u. joined (changes session_nested) (λ u. by_own (λ session. give session.drawn.drawn)) (changed session_nested steps.nested) (λ u. chosen (λ session. give session.drawn.drawn) (λ own. keeps_give (Holds P) own.drawn.drawn)))
 
-  pub commits_handle : (handle : ℕ) → Keeps (Holds P) (acts.commit_handle handle)
+  pub begins_nested : (w : World) → IsReadWell (enter_nested w).after → P w.own → P (acts.begin_nested w).after.own
+  unfolding acts.begin_nested enter_nested
+  begins_nested = acted enter_nested begin_savepoint (joined enter (λ u. checked limit_fault) enters (λ u. asked limit_fault)) begins
+
+  pub commits_handle : (handle : ℕ) (w : World) → IsReadWell (check_handle handle w).after → P w.own → P (acts.commit_handle handle w).after.own
   unfolding acts.commit_handle check_handle release_handle
   commits_handle handle =
-      joined (check_handle handle) (λ u. flush_whole >>= λ u. release_handle handle) (joined (checked pending_fault) (λ u. checked (handle_fault handle)) (asked pending_fault) (λ u. asked (handle_fault handle)))
-      (λ u.
-      joined flush_whole (λ u. release_handle handle) flushes_whole
-      (λ u. chosen (λ session. release_place (place_of_handle session.drawn handle)) (λ own. keeping.place_released P steps.notes steps.released (place_of_handle own.drawn handle))))
+      acted (check_handle handle) (release_handle handle) (joined (checked pending_fault) (λ u. checked (handle_fault handle)) (asked pending_fault) (λ u. asked (handle_fault handle)))
+      (chosen (λ session. release_place (place_of_handle session.drawn handle)) (λ own. keeping.place_released P steps.notes steps.released (place_of_handle own.drawn handle)))
 
-  pub asks_rows : (select : Select) → Keeps (Holds P) (acts.rows select)
-  unfolding acts.rows
-  asks_rows select = joined flush_now (λ u. statements.rows select) flushes (λ u. keeping.asks_rows P steps.notes select)
-
-  pub sends_bulk : (statement : Bulk) → Keeps (Holds P) (acts.bulk statement)
+  pub sends_bulk : (statement : Bulk) (w : World) → IsReadWell (statements.enter_bulk statement w).after → P w.own → P (acts.bulk statement w).after.own
   unfolding acts.bulk statements.enter_bulk
   sends_bulk statement =
-      joined (statements.enter_bulk statement) (λ u. flush_whole >>= λ u. statements.bulk statement)
-      (joined enter (λ u. checked (statements.update_fault statement)) enters (λ u. asked (statements.update_fault statement)))
-      (λ u. joined flush_whole (λ u. statements.bulk statement) flushes_whole (λ u. keeping.sends_bulk P steps.notes statement (steps.reread (table_of statement))))
+      acted (statements.enter_bulk statement) (statements.bulk statement) (joined enter (λ u. checked (statements.update_fault statement)) enters (λ u. asked (statements.update_fault statement)))
+      (keeping.sends_bulk P steps.notes statement (steps.reread (table_of statement)))
 
   -- ---- links
 

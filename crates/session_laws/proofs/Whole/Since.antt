@@ -24,10 +24,12 @@ use Rattle.session_calls.proofs.Joining.{same_itself, same_more}
 use Rattle.session_objects.specs.Taking.{coming_objects, session_added, session_joined}
 use Rattle.session_statements.specs.Rewriting.{graph_reread, is_reread, reread_of}
 use Rattle.session_objects.specs.ValueSteps.{given_fault, made_unless, valid_made}
+use Rattle.session_laws.proofs.Calls.Leaving.{expunged_keyed, expunged_same}
 use Rattle.session_laws.proofs.Health.Fits.{classes_written}
 use Rattle.session_laws.specs.Whole.{IsKeyed}
+use Rattle.session_laws.proofs.OwnRows.Standing.{hierarchies}
 use Rattle.session_laws.proofs.Loads.Sessions.{loaded_goes_on, loaded_keyed}
-use Rattle.session_laws.proofs.Whole.Keyed.{added_keyed, begun_keyed, closed_keyed, committed_keyed, flushed_keyed, if_class, made_keyed, mark_keyed, nested_keyed, released_keyed, reread_keyed, restored_keyed, value_keyed}
+use Rattle.session_laws.proofs.Whole.Keyed.{added_keyed, begun_keyed, closed_keyed, committed_keyed, flushed_keyed, given_keyed, if_class, made_keyed, mark_keyed, nested_keyed, released_keyed, reread_keyed, restored_keyed, value_keyed}
 use Rattle.session_laws.proofs.Whole.Linked.{changed_keyed, changed_same, joined_same, regraphed, with_one}
 use Rattle.session_laws.proofs.Whole.Programs.{AreSteps}
 use Rattle.session_laws.proofs.Whole.Refit.{classes_all, committed_class, restored_refit}
@@ -49,9 +51,12 @@ keyed_steps = record {
   rolled = λ count own keyed. same_keys own _ refl refl refl keyed;
   committed = committed_keyed;
   closed = closed_keyed;
+  pairs = λ own keyed. (hierarchies own.mapping keyed.well).paired;
   flushed = flushed_keyed;
+  given = given_keyed;
   reread = reread_keyed;
   added = added_keyed;
+  expunged = expunged_keyed;
   linked = changed_keyed;
   marked = mark_keyed;
   put = value_keyed;
@@ -121,11 +126,14 @@ module _ (first : SessionState) where
     rolled = λ count own since. stays own _ since (keyed_steps.rolled count own) refl refl (omega arith);
     committed = λ own since. went_on own _ since (committed_keyed own) (record { mapping = refl; classes = classes_all object_committed own.graph (λ o. committed_class o.state o); drawn = omega arith });
     closed = λ own since. went_on own _ since (closed_keyed own) (record { mapping = refl; classes = classes_all object_left own.graph (λ o. refl); drawn = omega arith });
-    flushed = λ prepared none rows keys own since.
-        went_on own _ since (flushed_keyed prepared none rows keys own) (regraphed own (graph_flushed own.mapping prepared rows keys own.graph) (classes_written (written_with own.mapping prepared rows keys own.graph)));
+    pairs = λ own since. keyed_steps.pairs own since.keyed;
+    given = λ before own back same given was since. went_on own _ since (given_keyed before own back same given was.keyed) (record { mapping = refl; classes = given.same; drawn = omega arith });
+    flushed = λ prepared rows keys own clear since.
+        went_on own _ since (flushed_keyed prepared rows keys own clear) (regraphed own (graph_flushed own.mapping prepared rows keys own.graph) (classes_written (written_with own.mapping prepared rows keys own.graph)));
     reread = λ table own since.
         went_on own _ since (reread_keyed table own) (regraphed own (graph_reread own.mapping table own.graph) (classes_all (reread_of own.mapping table) own.graph (λ o. if_class (is_reread own.mapping table o) o)));
     added = λ object own since. went_on own _ since (added_keyed object own) (added_same object own);
+    expunged = λ object own since. went_on own _ since (expunged_keyed object own) (expunged_same object own);
     linked = λ owner place call own on since. went_on own _ since (changed_keyed owner place call own on) (changed_same owner place call own on since.keyed);
     marked = λ object own since. went_on own _ since (mark_keyed object own) (marked_same object own);
     put = λ object attr value own inside none since. went_on own _ since (value_keyed object attr value own inside none) (put_same object attr value own);

@@ -17,21 +17,22 @@ use Rattle.relations.specs.Keys.{IsEnd}
 use Rattle.session_calls.specs.Parts.{World}
 use Rattle.session_calls.specs.Steps as calls
 use Rattle.session_acts.specs.Steps as acts
-use Rattle.session_objects.specs.Steps.{add}
+use Rattle.session_objects.specs.Steps.{add, expunge}
 use Rattle.session_links.specs.Steps.{change_link}
 use Rattle.session_tables.specs.Steps.{change_all}
 use Rattle.session_tables.specs.declared.tables.TableChange.{TableChange}
 use Rattle.session_objects.specs.ValueSteps.{set_valid, valid_made}
 use Rattle.session_laws.specs.Health.Health.{IsHealthy, IsWhole}
 
--- what is asked of a session, but for reads of rows into objects: objects are made with values, come in, get values and are to be
--- deleted; their links change; all is written; the transaction and savepoints begin and end; tables are made and dropped; rows are asked
--- for and written in bulk
+-- what is asked of a session, but for reads of rows into objects: objects are made with values, come in, get values, are to be deleted and
+-- leave; their links change; all is written; the transaction and savepoints begin and end; tables are made and dropped; rows are asked for
+-- and written in bulk
 pub data Call : Type 0 where
   Make : ClassId → List (AttrNo × Value) → Call
   Add : ObjId → Call
   Set : ObjId → AttrNo → Value → Call
   Delete : ObjId → Call
+  Expunge : ObjId → Call
   ChangeLink : ObjId → RelNo → LinkCall → Call
   Flush : Call
   Commit : Call
@@ -50,6 +51,7 @@ after_call rules (Make class given) world = (on_own (valid_made rules class give
 after_call rules (Add object) world = (add object world).after
 after_call rules (Set object attr value) world = (set_valid rules object attr value world).after
 after_call rules (Delete object) world = (calls.delete object world).after
+after_call rules (Expunge object) world = (expunge object world).after
 after_call rules (ChangeLink owner place call) world = (change_link owner place call world).after
 after_call rules Flush world = (acts.flush_now world).after
 after_call rules Commit world = (acts.commit world).after
@@ -67,6 +69,7 @@ abbrev pub MayCall : Call → World → Type 0
 MayCall (Add object) world = IsObject world.own.graph object
 MayCall (Set object attr value) world = IsObject world.own.graph object
 MayCall (Delete object) world = IsObject world.own.graph object
+MayCall (Expunge object) world = IsObject world.own.graph object
 MayCall (ChangeLink owner place call) world = IsObject world.own.graph owner × IsEnd world.own.graph (end_of call)
 MayCall (Write statement) world = acts.IsPlainButForKeys world.own.mapping.schema statement
 MayCall call world = Unit {0}

@@ -1,6 +1,5 @@
--- What sessions keep beside soundness, so that every call finds what it needs: keys that no cell contradicts, and objects to be deleted
--- of which all is known, and that have no links.
-use Rattle.std.specs.Prelude.{◌≡◌, ℕ, ◌<◌, Bool, true, ◌&&◌, List, [], ◌∷◌, length, slice_index_or, Option, is_some}
+-- What sessions keep beside soundness, so that every call finds what it needs: keys that no cell contradicts, and tables that ascend.
+use Rattle.std.specs.Prelude.{◌≡◌, ℕ, Bool, true, ◌&&◌, List, [], ◌∷◌, slice_index_or, Option, is_some}
 use Rattle.base_core.specs.declared.ids.AttrNo.{AttrNo}
 use Rattle.base_core.specs.declared.value.Value.{Value}
 use Rattle.class_mapping.specs.Mapped.{Mapped, is_key_attribute}
@@ -29,19 +28,6 @@ abbrev pub HoldsItsKey : Mapped → Object → Type 0
 HoldsItsKey mapped object =
     is_named object.state object.identity ≡ true → (attr : AttrNo) → is_key_attribute mapped object.class attr ≡ true → (cell_in object attr).value ≡ (cell_in object attr).base
 
--- it has no links, where it is to be deleted: `delete` refuses others
-abbrev pub IsUnlinkedIfMarked : Object → Type 0
-IsUnlinkedIfMarked object = object.marked ≡ true → object.links ≡ []
-
--- all that its rows hold is known, where it is to be deleted
-abbrev pub IsKnownIfMarked : Object → Type 0
-IsKnownIfMarked object = object.marked ≡ true → (attr : AttrNo) → attr.0 < length object.cells → is_some (cell_in object attr).base ≡ true
-
-pub record IsOrderly (mapped : Mapped) (object : Object) : Type 0 where
-  pub keyed : HoldsItsKey mapped object
-  pub known : IsKnownIfMarked object
-  pub unlinked : IsUnlinkedIfMarked object
-
 -- ---- who had an identity
 
 abbrev pub stands_named : Standing → Bool
@@ -63,7 +49,7 @@ AreNamedSince now (scope ∷ scopes) = ((place : ℕ) → was_named scope place 
 -- the mapping is as every configured one is, with links, classes of several tables and discriminators as they may be
 pub record IsOrderlySession (own : SessionState) : Type 0 where
   pub well : IsWellMapped own.mapping
-  pub objects : EachObject (IsOrderly own.mapping) own.graph
+  pub objects : EachObject (HoldsItsKey own.mapping) own.graph
   pub named : AreNamedSince (is_named_in own.graph) own.frames.scopes
 
 -- its tables and their rows ascend, those at the start of each scope too

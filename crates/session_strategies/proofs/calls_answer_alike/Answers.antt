@@ -3,4 +3,4 @@ use Rattle.session_strategies.proofs.Laws.{answer_alike}
 use Rattle.session_strategies.proofs.calls_answer_alike.Goals as goal
 
 pub returns : goal.returns
-returns c = answer_alike (leaves_sound c.a_flush_keeps_a_told_session_sound.ensures) (writes_all c.an_answered_flush_of_a_told_session_leaves_sound.ensures)
+returns c = answer_alike c.preparations_keep_sessions_whole.ensures.reread (leaves_sound c.a_flush_keeps_a_told_session_sound.ensures) (writes_all c.an_answered_flush_of_a_told_session_leaves_sound.ensures)

@@ -4,5 +4,5 @@ use Rattle.session_strategies.proofs.calls_read_alike.Goals as goal
 
 pub returns : goal.returns
 returns c =
-    read_alike (leaves_sound c.a_flush_keeps_a_told_session_sound.ensures) (writes_all c.an_answered_flush_of_a_told_session_leaves_sound.ensures) c.selects_answer_table_rows.ensures c.own_selects_answer_table_rows.ensures
+    read_alike c.preparations_keep_sessions_whole.ensures.reread (leaves_sound c.a_flush_keeps_a_told_session_sound.ensures) (writes_all c.an_answered_flush_of_a_told_session_leaves_sound.ensures) c.selects_answer_table_rows.ensures c.own_selects_answer_table_rows.ensures
     c.main_selects_answer_table_rows.ensures c.loads_leave_loaded.ensures

@@ -18,9 +18,13 @@ returns-in_err-unloaded-clause-stays g c = passed_stays (g.K.Keeper.moment c.arg
 pub returns-in_err-unloaded-clause-grows : goal.returns-in_err-unloaded-clause-grows
 returns-in_err-unloaded-clause-grows g c = grows_same c.args.arena.now c.args.arena.now refl
 
+pub unloaded_owners-requires : goal.unloaded_owners-requires
+unloaded_owners-requires g c = λ i object less. (c.requires.owners i object less).made
+
 pub load_batches-requires-clause-owned : goal.load_batches-requires-clause-owned
 load_batches-requires-clause-owned g c =
-    subst (λ (owners : List Owner). All (IsOwned c.args.mapping.now c.args.arena.now c.args.relation.now c.args.place) owners) (sym c.as_slice.ensures) c.in_ok-unloaded.ensures.owned
+    subst (λ (owners : List Owner). All (IsOwned c.args.mapping.now c.args.arena.now c.args.relation.now c.args.place) owners) (sym c.as_slice.ensures)
+    (c.in_ok-unloaded.ensures.owned c.args.mapping.now c.args.relation.now c.requires.fit c.requires.owners)
 
 pub returns-clause-step : goal.returns-clause-step
 returns-clause-step g c =

@@ -1,10 +1,7 @@
 use Rattle.std.proofs.Common.{◌≡◌, ◌++◌, drop}
-use Rattle.std.specs.List.{All, flat_map}
-use Rattle.load_ends.specs.Ends.{IsChild, if_unloaded}
+use Rattle.std.specs.List.{flat_map}
+use Rattle.load_ends.specs.Ends.{if_unloaded}
 use Rattle.load_ends.proofs.owners.unloaded.Given as goal
 
 abbrev pub invariant-loop-owner : goal.invariant-loop-owner
-invariant-loop-owner l = record {
-  found : l.found ++ flat_map (if_unloaded l.arena l.place) (drop l.owner-index l.owners) ≡ flat_map (if_unloaded l.arena l.place) l.owners;
-  owned : All (IsChild l.mapping l.arena l.relation l.place) l.found;
-}
+invariant-loop-owner l = l.found ++ flat_map (if_unloaded l.arena l.place) (drop l.owner-index l.owners) ≡ flat_map (if_unloaded l.arena l.place) l.owners

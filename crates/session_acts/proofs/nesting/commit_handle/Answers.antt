@@ -20,34 +20,34 @@ returns-in-Some-clause-call g c = asking_refused g.K.Keeper.moment (release_hand
 pub returns-in-Some-clause-refused : goal.returns-in-Some-clause-refused
 returns-in-Some-clause-refused g c = Asked (Before (sym c.in-Some.ensures.fault) refl)
 
-pub flush_whole-requires : goal.flush_whole-requires
-flush_whole-requires g c =
+pub flush-requires : goal.flush-requires
+flush-requires g c =
     let none : c.release_fault.result ≡ None = search rules in
     record { in_step = c.requires.in_step; inside = omega (arith, c.release_fault.ensures.inside none); well = c.release_fault.ensures.well none }
 
-pub returns-in_err-flush_whole-clause-call : goal.returns-in_err-flush_whole-clause-call
+pub returns-in_err-flush-clause-call : goal.returns-in_err-flush-clause-call
 unfolding commit_handle
-returns-in_err-flush_whole-clause-call g c =
+returns-in_err-flush-clause-call g c =
     let none : c.release_fault.result ≡ None = search rules in
-    passed_call c.from_residual.ensures.1 (flush_refused g.K.Keeper.moment (release_handle c.args.handle) (handle_open g.K.Keeper.moment c.args.handle (sym c.release_fault.ensures.fault ∙ none) c.requires.in_step) c.in_err-flush_whole.ensures.call)
+    passed_call c.from_residual.ensures.1 (flush_refused g.K.Keeper.moment (release_handle c.args.handle) (handle_open g.K.Keeper.moment c.args.handle (sym c.release_fault.ensures.fault ∙ none) c.requires.in_step) c.in_err-flush.ensures.call)
 
 pub returns-clause-call : goal.returns-clause-call
 unfolding commit_handle
 returns-clause-call g c =
     let none : c.release_fault.result ≡ None = search rules in
-    flushed_then g.K.Keeper.moment (release_handle c.args.handle) (handle_open g.K.Keeper.moment c.args.handle (sym c.release_fault.ensures.fault ∙ none) c.requires.in_step) c.in_ok-flush_whole.ensures.call c.release_handle.ensures.call
+    flushed_then g.K.Keeper.moment (release_handle c.args.handle) (handle_open g.K.Keeper.moment c.args.handle (sym c.release_fault.ensures.fault ∙ none) c.requires.in_step) c.in_ok-flush.ensures.call c.release_handle.ensures.call
 
 pub release_handle-requires : goal.release_handle-requires
-release_handle-requires g c = record { in_step = c.in_ok-flush_whole.ensures.call.kept.in_step; well = c.in_ok-flush_whole.ensures.well }
+release_handle-requires g c = record { in_step = c.in_ok-flush.ensures.call.kept.in_step; well = c.in_ok-flush.ensures.well }
 
-pub returns-in_err-flush_whole-clause-refused : goal.returns-in_err-flush_whole-clause-refused
-returns-in_err-flush_whole-clause-refused g c =
+pub returns-in_err-flush-clause-refused : goal.returns-in_err-flush-clause-refused
+returns-in_err-flush-clause-refused g c =
     let none : c.release_fault.result ≡ None = search rules in
     let inside : in_transaction c.args.session.now ≡ true = scope_open c.args.session.now.frames.scopes (omega (arith, c.release_fault.ensures.inside none)) in
-    passed_on (λ e. IsRefusedFlushing (either_fault (pending_fault c.args.session.now) (handle_fault c.args.handle c.args.session.now)) None c.args.session.now (g.K.Keeper.moment c.args.keeper.now) e c.flush_whole.new.session (g.K.Keeper.moment c.flush_whole.new.keeper))
+    passed_on (λ e. IsRefusedFlushing (either_fault (pending_fault c.args.session.now) (handle_fault c.args.handle c.args.session.now)) None c.args.session.now (g.K.Keeper.moment c.args.keeper.now) e c.flush.new.session (g.K.Keeper.moment c.flush.new.keeper))
     c.from_residual.result c.from_residual.ensures.1
-    (not_written (either_fault (pending_fault c.args.session.now) (handle_fault c.args.handle c.args.session.now)) None c.args.session.now c.args.session.now c.flush_whole.new.session (g.K.Keeper.moment c.args.keeper.now) (g.K.Keeper.moment c.args.keeper.now)
-    (g.K.Keeper.moment c.flush_whole.new.keeper) c.in_err-flush_whole.field-0.0 (entered_still c.args.session.now inside) refl c.in_err-flush_whole.ensures.refused)
+    (not_written (either_fault (pending_fault c.args.session.now) (handle_fault c.args.handle c.args.session.now)) None c.args.session.now c.args.session.now c.flush.new.session (g.K.Keeper.moment c.args.keeper.now) (g.K.Keeper.moment c.args.keeper.now)
+    (g.K.Keeper.moment c.flush.new.keeper) c.in_err-flush.field-0.0 (entered_still c.args.session.now inside) refl c.in_err-flush.ensures.refused)
 
 pub returns-clause-refused : goal.returns-clause-refused
 returns-clause-refused g c =

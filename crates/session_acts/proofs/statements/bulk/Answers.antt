@@ -15,29 +15,29 @@ use Rattle.session_acts.specs.Refusals.{Asked, IsRefusedSending, Unflushed}
 use Rattle.session_acts.proofs.Unwritten.{not_sent, not_written, written_since}
 use Rattle.session_acts.proofs.statements.bulk.Goals as goal
 
-pub flush_whole-requires : goal.flush_whole-requires
-flush_whole-requires g c = record { in_step = c.in_ok-enter_bulk.ensures.call.kept.in_step; inside = c.in_ok-enter_bulk.ensures.inside; well = c.in_ok-enter_bulk.ensures.well }
+pub flush-requires : goal.flush-requires
+flush-requires g c = record { in_step = c.in_ok-enter_bulk.ensures.call.kept.in_step; inside = c.in_ok-enter_bulk.ensures.inside; well = c.in_ok-enter_bulk.ensures.well }
 
 pub returns-in_err-enter_bulk-clause-call : goal.returns-in_err-enter_bulk-clause-call
 unfolding own.bulk
 returns-in_err-enter_bulk-clause-call g c = passed_call c.from_residual.ensures.1 (asking_refused g.K.Keeper.moment (bulk c.args.statement.now) c.in_err-enter_bulk.ensures.call)
 
-pub returns-in_err-flush_whole-clause-call : goal.returns-in_err-flush_whole-clause-call
+pub returns-in_err-flush-clause-call : goal.returns-in_err-flush-clause-call
 unfolding own.bulk
-returns-in_err-flush_whole-clause-call g c = passed_call c.from_residual-in_err-flush_whole.ensures.1 (flush_refused g.K.Keeper.moment (bulk c.args.statement.now) c.in_ok-enter_bulk.ensures.call c.in_err-flush_whole.ensures.call)
+returns-in_err-flush-clause-call g c = passed_call c.from_residual-in_err-flush.ensures.1 (flush_refused g.K.Keeper.moment (bulk c.args.statement.now) c.in_ok-enter_bulk.ensures.call c.in_err-flush.ensures.call)
 
 pub returns-clause-call : goal.returns-clause-call
 unfolding own.bulk
-returns-clause-call g c = flushed_then g.K.Keeper.moment (bulk c.args.statement.now) c.in_ok-enter_bulk.ensures.call c.in_ok-flush_whole.ensures.call c.bulk.ensures.call
+returns-clause-call g c = flushed_then g.K.Keeper.moment (bulk c.args.statement.now) c.in_ok-enter_bulk.ensures.call c.in_ok-flush.ensures.call c.bulk.ensures.call
 
 pub bulk-requires : goal.bulk-requires
 bulk-requires g c =
     let asked : own.IsPlainButForKeys c.enter_bulk.new.session.mapping.schema c.args.statement.now =
     subst (λ (m : Mapped). own.IsPlainButForKeys m.schema c.args.statement.now) (sym c.in_ok-enter_bulk.ensures.call.kept.same.mapping) c.requires.plain in
     record {
-      in_step = c.in_ok-flush_whole.ensures.call.kept.in_step;
-      inside = omega (arith, ap length c.in_ok-flush_whole.ensures.scopes, c.in_ok-enter_bulk.ensures.inside);
-      plain = subst (λ (m : Mapped). IsPlainBulk m.schema c.args.statement.now) (sym c.in_ok-flush_whole.ensures.call.kept.same.mapping) (asked c.in_ok-enter_bulk.ensures.spares);
+      in_step = c.in_ok-flush.ensures.call.kept.in_step;
+      inside = omega (arith, ap length c.in_ok-flush.ensures.scopes, c.in_ok-enter_bulk.ensures.inside);
+      plain = subst (λ (m : Mapped). IsPlainBulk m.schema c.args.statement.now) (sym c.in_ok-flush.ensures.call.kept.same.mapping) (asked c.in_ok-enter_bulk.ensures.spares);
     }
 
 pub returns-in_err-enter_bulk-clause-refused : goal.returns-in_err-enter_bulk-clause-refused
@@ -46,19 +46,19 @@ returns-in_err-enter_bulk-clause-refused g c =
     (λ e. IsRefusedSending (pending_fault c.args.session.now) (update_fault c.args.statement.now c.args.session.now) (sent.Bulk c.args.statement.now) (RefusesBulk c.args.session.now.mapping.schema c.args.statement.now) c.args.session.now
     (g.K.Keeper.moment c.args.keeper.now) e c.enter_bulk.new.session (g.K.Keeper.moment c.enter_bulk.new.keeper)) c.from_residual.result c.from_residual.ensures.1 (Unflushed (Asked c.in_err-enter_bulk.ensures.refused))
 
-pub returns-in_err-flush_whole-clause-refused : goal.returns-in_err-flush_whole-clause-refused
-returns-in_err-flush_whole-clause-refused g c =
+pub returns-in_err-flush-clause-refused : goal.returns-in_err-flush-clause-refused
+returns-in_err-flush-clause-refused g c =
     passed_on
     (λ e. IsRefusedSending (pending_fault c.args.session.now) (update_fault c.args.statement.now c.args.session.now) (sent.Bulk c.args.statement.now) (RefusesBulk c.args.session.now.mapping.schema c.args.statement.now) c.args.session.now
-    (g.K.Keeper.moment c.args.keeper.now) e c.flush_whole.new.session (g.K.Keeper.moment c.flush_whole.new.keeper)) c.from_residual-in_err-flush_whole.result c.from_residual-in_err-flush_whole.ensures.1
+    (g.K.Keeper.moment c.args.keeper.now) e c.flush.new.session (g.K.Keeper.moment c.flush.new.keeper)) c.from_residual-in_err-flush.result c.from_residual-in_err-flush.ensures.1
     (Unflushed
-    (not_written (pending_fault c.args.session.now) (update_fault c.args.statement.now c.args.session.now) c.args.session.now c.enter_bulk.new.session c.flush_whole.new.session (g.K.Keeper.moment c.args.keeper.now)
-    (g.K.Keeper.moment c.enter_bulk.new.keeper) (g.K.Keeper.moment c.flush_whole.new.keeper) c.in_err-flush_whole.field-0.0 c.in_ok-enter_bulk.ensures.entered (call_calm c.in_ok-enter_bulk.ensures.call).0 c.in_err-flush_whole.ensures.refused))
+    (not_written (pending_fault c.args.session.now) (update_fault c.args.statement.now c.args.session.now) c.args.session.now c.enter_bulk.new.session c.flush.new.session (g.K.Keeper.moment c.args.keeper.now)
+    (g.K.Keeper.moment c.enter_bulk.new.keeper) (g.K.Keeper.moment c.flush.new.keeper) c.in_err-flush.field-0.0 c.in_ok-enter_bulk.ensures.entered (call_calm c.in_ok-enter_bulk.ensures.call).0 c.in_err-flush.ensures.refused))
 
 pub returns-clause-refused : goal.returns-clause-refused
 returns-clause-refused g c =
     not_sent (pending_fault c.args.session.now) (update_fault c.args.statement.now c.args.session.now) (sent.Bulk c.args.statement.now) (λ (schema : Catalog). RefusesBulk schema c.args.statement.now) c.args.session.now
-    c.flush_whole.new.session c.bulk.new.session (g.K.Keeper.moment c.args.keeper.now) (g.K.Keeper.moment c.flush_whole.new.keeper) (g.K.Keeper.moment c.bulk.new.keeper) c.bulk.result
-    (written_since (entered c.args.session.now) c.enter_bulk.new.session c.flush_whole.new.session c.in_ok-enter_bulk.ensures.entered c.in_ok-flush_whole.ensures.flushed)
-    (c.in_ok-flush_whole.ensures.call.kept.same.mapping ∙ c.in_ok-enter_bulk.ensures.call.kept.same.mapping)
-    ((call_calm c.in_ok-flush_whole.ensures.call).0 ∙ (call_calm c.in_ok-enter_bulk.ensures.call).0) c.bulk.ensures.refused
+    c.flush.new.session c.bulk.new.session (g.K.Keeper.moment c.args.keeper.now) (g.K.Keeper.moment c.flush.new.keeper) (g.K.Keeper.moment c.bulk.new.keeper) c.bulk.result
+    (written_since (entered c.args.session.now) c.enter_bulk.new.session c.flush.new.session c.in_ok-enter_bulk.ensures.entered c.in_ok-flush.ensures.flushed)
+    (c.in_ok-flush.ensures.call.kept.same.mapping ∙ c.in_ok-enter_bulk.ensures.call.kept.same.mapping)
+    ((call_calm c.in_ok-flush.ensures.call).0 ∙ (call_calm c.in_ok-enter_bulk.ensures.call).0) c.bulk.ensures.refused

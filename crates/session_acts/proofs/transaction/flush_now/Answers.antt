@@ -4,24 +4,25 @@ use Rattle.session_calls.specs.Steps.{pending_fault}
 use Rattle.session_calls.proofs.Joining.{err_call, passed_call, then_call}
 use Rattle.session_calls.proofs.Refusing.{call_calm, passed_on}
 use Rattle.session_acts.specs.Refusals.{Asked, IsRefusedFlushing}
-use Rattle.session_acts.specs.Steps.{flush_now, flush_whole}
+use Rattle.session_acts.specs.Flush.{flush}
+use Rattle.session_acts.specs.Steps.{flush_now}
 use Rattle.session_acts.proofs.ActLemmas.{deep_still}
 use Rattle.session_acts.proofs.Unwritten.{flushed_since, none_written}
 use Rattle.session_acts.proofs.transaction.flush_now.Goals as goal
 
-pub flush_whole-requires : goal.flush_whole-requires
-flush_whole-requires g c = record { in_step = c.in_ok-enter.ensures.call.kept.in_step; inside = c.in_ok-enter.ensures.inside; well = c.in_ok-enter.ensures.well }
+pub flush-requires : goal.flush-requires
+flush-requires g c = record { in_step = c.in_ok-enter.ensures.call.kept.in_step; inside = c.in_ok-enter.ensures.inside; well = c.in_ok-enter.ensures.well }
 
 pub returns-in_err-enter-clause-call : goal.returns-in_err-enter-clause-call
 unfolding flush_now
-returns-in_err-enter-clause-call g c = passed_call c.from_residual.ensures.1 (err_call (λ u. flush_whole) c.in_err-enter.ensures.call)
+returns-in_err-enter-clause-call g c = passed_call c.from_residual.ensures.1 (err_call (λ u. flush) c.in_err-enter.ensures.call)
 
 pub returns-clause-call : goal.returns-clause-call
 unfolding flush_now
-returns-clause-call g c = then_call (λ u. flush_whole) c.in_ok-enter.ensures.call c.flush_whole.ensures.call
+returns-clause-call g c = then_call (λ u. flush) c.in_ok-enter.ensures.call c.flush.ensures.call
 
 pub returns-clause-inside : goal.returns-clause-inside
-returns-clause-inside g c = deep_still c.enter.new.session.frames.scopes c.flush_whole.new.session.frames.scopes c.flush_whole.result c.flush_whole.ensures.scopes c.in_ok-enter.ensures.inside
+returns-clause-inside g c = deep_still c.enter.new.session.frames.scopes c.flush.new.session.frames.scopes c.flush.result c.flush.ensures.scopes c.in_ok-enter.ensures.inside
 
 pub returns-in_err-enter-clause-refused : goal.returns-in_err-enter-clause-refused
 returns-in_err-enter-clause-refused g c =
@@ -29,9 +30,9 @@ returns-in_err-enter-clause-refused g c =
     c.from_residual.ensures.1 (Asked c.in_err-enter.ensures.refused)
 
 pub returns-clause-flushed : goal.returns-clause-flushed
-returns-clause-flushed g c = flushed_since (entered c.args.session.now) c.enter.new.session c.flush_whole.new.session c.flush_whole.result c.in_ok-enter.ensures.entered c.flush_whole.ensures.flushed
+returns-clause-flushed g c = flushed_since (entered c.args.session.now) c.enter.new.session c.flush.new.session c.flush.result c.in_ok-enter.ensures.entered c.flush.ensures.flushed
 
 pub returns-clause-refused : goal.returns-clause-refused
 returns-clause-refused g c =
-    none_written (pending_fault c.args.session.now) None c.args.session.now c.enter.new.session c.flush_whole.new.session (g.K.Keeper.moment c.args.keeper.now) (g.K.Keeper.moment c.enter.new.keeper)
-    (g.K.Keeper.moment c.flush_whole.new.keeper) c.flush_whole.result c.in_ok-enter.ensures.entered (call_calm c.in_ok-enter.ensures.call).0 c.flush_whole.ensures.refused
+    none_written (pending_fault c.args.session.now) None c.args.session.now c.enter.new.session c.flush.new.session (g.K.Keeper.moment c.args.keeper.now) (g.K.Keeper.moment c.enter.new.keeper)
+    (g.K.Keeper.moment c.flush.new.keeper) c.flush.result c.in_ok-enter.ensures.entered (call_calm c.in_ok-enter.ensures.call).0 c.flush.ensures.refused

@@ -1,5 +1,6 @@
 use Rattle.std.proofs.Common.{Ok, Err, refl, sym, ap, ◌∙◌, subst}
 use Rattle.base_core.specs.declared.refusal.Refusal.TheVariants.{Memory}
+use Rattle.class_mapping.specs.Configured.{IsConfigured}
 use Rattle.graph_flushed.specs.Fitting.{AreClearable}
 use Rattle.session_scopes.specs.SessionState.{SessionState}
 use Rattle.session_calls.proofs.Joining.{passed_call}
@@ -48,7 +49,7 @@ returns-in_err-keys-clause-cause g c =
 
 -- the objects change
 pub step-requires : goal.step-requires
-step-requires g c = subst (λ (s : SessionState). AreClearable s.mapping s.graph c.args.prepared.now) (sym c.in_ok-keys.ensures.alike) c.requires.clearable
+step-requires g c = subst (λ (s : SessionState). IsConfigured s.mapping × AreClearable s.mapping s.graph c.args.prepared.now) (sym c.in_ok-keys.ensures.alike) (c.requires.configured, c.requires.clearable)
 
 -- memory ran out as the objects changed
 pub returns-in_err-step-clause-call : goal.returns-in_err-step-clause-call

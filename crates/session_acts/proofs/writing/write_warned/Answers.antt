@@ -3,6 +3,7 @@ use Rattle.std.proofs.lemmas.Result.{IfErr-weaker}
 use Rattle.base_core.specs.declared.refusal.Refusal.TheVariants.{Memory}
 use Rattle.flush_order.specs.Ready.{AreInRange, AreReady}
 use Rattle.schema_core.specs.Catalog.{Catalog}
+use Rattle.class_mapping.specs.Configured.{IsConfigured}
 use Rattle.graph_flushed.specs.Fitting.{AreClearable}
 use Rattle.session_scopes.specs.SessionState.{SessionState, with_warnings}
 use Rattle.session_calls.proofs.Joining.{passed_call}
@@ -36,6 +37,7 @@ pub write_rows-requires : goal.write_rows-requires
 write_rows-requires g c = record {
   in_step = alike_in_step (g.K.Keeper.moment c.args.keeper.now) c.args.session.now c.warn_all.new.self c.in_ok-warn_all.ensures.alike c.requires.in_step;
   inside = omega (arith, ap (λ (s : SessionState). length s.frames.scopes) c.in_ok-warn_all.ensures.alike, c.requires.inside);
+  configured = subst (λ (s : SessionState). IsConfigured s.mapping) (sym c.in_ok-warn_all.ensures.alike) c.requires.configured;
   clearable = subst (λ (s : SessionState). AreClearable s.mapping s.graph c.args.prepared.now) (sym c.in_ok-warn_all.ensures.alike) c.requires.clearable;
   range = subst (λ (s : SessionState). AreInRange s.mapping.schema c.args.rows.now) (sym c.in_ok-warn_all.ensures.alike) c.requires.range;
   ready = subst (λ (s : SessionState). AreReady s.mapping.schema c.args.rows.now c.args.ready.now) (sym c.in_ok-warn_all.ensures.alike) c.requires.ready;

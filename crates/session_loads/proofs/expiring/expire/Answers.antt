@@ -1,26 +1,34 @@
-use Rattle.std.proofs.Common.{List, ap, subst, sym, ◌∙◌}
-use Rattle.std.specs.List.{All}
-use Rattle.base_core.specs.declared.ids.ObjId.{ObjId}
-use Rattle.cascades.specs.declared.closures.Flag.TheVariants.{RefreshExpire}
-use Rattle.cascades.specs.Closures.{closure_of}
-use Rattle.class_mapping.specs.Mapped.{Mapped}
-use Rattle.object_arena.specs.Graph.{Graph, IsObject}
-use Rattle.session_parts.proofs.ObjectLemmas.{on_ok}
-use Rattle.session_loads.specs.Expiring.{all_expired, session_expired}
+use Rattle.std.proofs.Common.{ap, length}
+use Rattle.session_calls.specs.Refusals.{IsRefused}
+use Rattle.session_calls.specs.Steps.{pending_fault}
+use Rattle.session_calls.proofs.Joining.{err_call, passed_call, then_call}
+use Rattle.session_calls.proofs.Refusing.{passed_on, refused_entering}
+use Rattle.session_objects.proofs.Acting.{inside_call, inside_refused}
+use Rattle.session_loads.specs.Asking.{persistence_fault}
+use Rattle.session_loads.specs.Expiring.{session_expired}
+use Rattle.session_loads.specs.Reads.{expire, expire_inside}
 use Rattle.session_loads.proofs.expiring.expire.Goals as goal
 
-pub expire_all-requires : goal.expire_all-requires
-expire_all-requires c =
-    subst (λ (g : Graph). All (IsObject g) c.as_slice.result.now) c.arena.ensures.objects
-    (subst (All (IsObject c.arena.result.now)) (sym c.as_slice.ensures.members) c.in_ok-closure.ensures.closure.objects)
+pub expire_inside-requires : goal.expire_inside-requires
+expire_inside-requires g c = (c.in_ok-enter.ensures.call.kept.same.there c.args.object c.requires.object).0
 
-pub returns-clause-ok : goal.returns-clause-ok
-unfolding session_expired
-returns-clause-ok c =
-    let own = c.args.session.now in
-    on_ok c.expire_all.result
-    (λ expired. expired
-    ∙ ap (λ (os : List ObjId). all_expired os own)
-    (c.as_slice.ensures.members ∙ c.in_ok-closure.ensures.is ∙ ap (λ (m : Mapped). closure_of RefreshExpire m c.arena.result.now c.args.object) c.mapping.ensures
-    ∙ ap (λ (g : Graph). closure_of RefreshExpire own.mapping g c.args.object) c.arena.ensures.objects))
-    c.expire_all.ensures.ok
+pub returns-in_err-enter-clause-call : goal.returns-in_err-enter-clause-call
+unfolding expire
+returns-in_err-enter-clause-call g c = passed_call c.from_residual.ensures.1 (err_call (λ u. expire_inside c.args.object) c.in_err-enter.ensures.call)
+
+pub returns-in_err-enter-clause-refused : goal.returns-in_err-enter-clause-refused
+returns-in_err-enter-clause-refused g c =
+    passed_on (λ e. IsRefused (pending_fault c.args.session.now) (persistence_fault c.args.object c.args.session.now) c.args.session.now e c.enter.new.session) c.from_residual.result c.from_residual.ensures.1
+    (refused_entering c.in_err-enter.ensures.refused)
+
+pub returns-clause-call : goal.returns-clause-call
+unfolding expire
+returns-clause-call g c =
+    then_call (λ u. expire_inside c.args.object) c.in_ok-enter.ensures.call
+    (inside_call g.K.Keeper.moment (persistence_fault c.args.object) (session_expired c.args.object) c.enter.new.session c.expire_inside.new.session c.enter.new.keeper c.expire_inside.result c.expire_inside.ensures.done
+    c.expire_inside.ensures.same (ap length c.expire_inside.ensures.scopes) c.in_ok-enter.ensures.call.kept.in_step)
+
+pub returns-clause-refused : goal.returns-clause-refused
+returns-clause-refused g c =
+    inside_refused (persistence_fault c.args.object) (session_expired c.args.object c.enter.new.session) c.args.session.now c.enter.new.session c.expire_inside.new.session c.expire_inside.result c.in_ok-enter.ensures.entered
+    c.in_ok-enter.ensures.well c.expire_inside.ensures.done

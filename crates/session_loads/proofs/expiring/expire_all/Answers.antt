@@ -3,8 +3,9 @@ use Rattle.std.proofs.lemmas.List.Elements.{All-get_or}
 use Rattle.base_core.specs.declared.ids.ObjId.{ObjId}
 use Rattle.object_arena.specs.Graph.{IsObject}
 use Rattle.session_calls.proofs.Joining.{same_itself, same_more}
+use Rattle.session_objects.proofs.LeavingLemmas.{objects_still}
 use Rattle.session_loads.specs.Expiring.{all_expired}
-use Rattle.session_loads.proofs.ExpireLemmas.{expired_last, expired_more, objects_still}
+use Rattle.session_loads.proofs.ExpireLemmas.{expired_last, expired_more}
 use Rattle.session_loads.proofs.expiring.expire_all.Goals as goal
 
 abbrev none : ObjId

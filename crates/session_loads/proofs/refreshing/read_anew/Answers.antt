@@ -26,28 +26,28 @@ returns-in_err-rows-clause-refused g c =
     passed_on (λ e. IsRefusedHere None (IsRefusedWhole c.args.object) c.args.session.now (g.K.Keeper.moment c.args.keeper.now) e c.load.new.session (g.K.Keeper.moment c.load.new.keeper)) c.from_residual.result c.from_residual.ensures.1
     (ThenHere c.in_err-rows.ensures.refused)
 
-pub expire-requires : goal.expire-requires
-expire-requires g c = (c.in_ok-rows.ensures.call.kept.same.there c.args.object c.requires.object).0
+pub expire_along-requires : goal.expire_along-requires
+expire_along-requires g c = (c.in_ok-rows.ensures.call.kept.same.there c.args.object c.requires.object).0
 
-pub returns-in_err-expire-clause-call : goal.returns-in_err-expire-clause-call
+pub returns-in_err-expire_along-clause-call : goal.returns-in_err-expire_along-clause-call
 unfolding read_anew
-returns-in_err-expire-clause-call g c =
-    passed_call c.from_residual-in_err-expire.ensures.1 (then_call (λ rows. fill_anew c.args.object rows) c.in_ok-rows.ensures.call (runs_out g.K.Keeper.moment refl c.in_err-expire.ensures.same))
+returns-in_err-expire_along-clause-call g c =
+    passed_call c.from_residual-in_err-expire_along.ensures.1 (then_call (λ rows. fill_anew c.args.object rows) c.in_ok-rows.ensures.call (runs_out g.K.Keeper.moment refl c.in_err-expire_along.ensures.same))
 
-pub returns-in_err-expire-clause-refused : goal.returns-in_err-expire-clause-refused
-returns-in_err-expire-clause-refused g c =
-    passed_on (λ e. IsRefusedHere None (IsRefusedWhole c.args.object) c.args.session.now (g.K.Keeper.moment c.args.keeper.now) e c.expire.new.session (g.K.Keeper.moment c.load.new.keeper)) c.from_residual-in_err-expire.result
-    c.from_residual-in_err-expire.ensures.1 (EarlyHere refl)
+pub returns-in_err-expire_along-clause-refused : goal.returns-in_err-expire_along-clause-refused
+returns-in_err-expire_along-clause-refused g c =
+    passed_on (λ e. IsRefusedHere None (IsRefusedWhole c.args.object) c.args.session.now (g.K.Keeper.moment c.args.keeper.now) e c.expire_along.new.session (g.K.Keeper.moment c.load.new.keeper)) c.from_residual-in_err-expire_along.result
+    c.from_residual-in_err-expire_along.ensures.1 (EarlyHere refl)
 
 pub load-requires-2 : goal.load-requires-2
 load-requires-2 g c =
     let here = c.in_ok-rows.ensures.call.kept in
     record {
-      in_step = (here.in_step.0, here.in_step.1 ∙ ap length (sym c.in_ok-expire.ensures.scopes));
-      inside = deep_after c.load.new.session.frames.scopes c.expire.new.session.frames.scopes c.in_ok-expire.ensures.scopes (deep_after c.args.session.now.frames.scopes c.load.new.session.frames.scopes c.in_ok-rows.ensures.left.scopes c.requires.inside);
+      in_step = (here.in_step.0, here.in_step.1 ∙ ap length (sym c.in_ok-expire_along.ensures.scopes));
+      inside = deep_after c.load.new.session.frames.scopes c.expire_along.new.session.frames.scopes c.in_ok-expire_along.ensures.scopes (deep_after c.args.session.now.frames.scopes c.load.new.session.frames.scopes c.in_ok-rows.ensures.left.scopes c.requires.inside);
       ready = (
-        made_still c.load.new.session.graph c.expire.new.session.graph c.args.object c.in_ok-expire.ensures.same.classes (here.same.there c.args.object c.requires.object).0,
-        rows_still c.load.new.session c.expire.new.session c.args.object c.in_ok-rows.rows c.in_ok-expire.ensures.same (here.same.there c.args.object c.requires.object).0 c.in_ok-rows.ensures.found,
+        made_still c.load.new.session.graph c.expire_along.new.session.graph c.args.object c.in_ok-expire_along.ensures.same.classes (here.same.there c.args.object c.requires.object).0,
+        rows_still c.load.new.session c.expire_along.new.session c.args.object c.in_ok-rows.rows c.in_ok-expire_along.ensures.same (here.same.there c.args.object c.requires.object).0 c.in_ok-rows.ensures.found,
       );
     }
 
@@ -57,10 +57,10 @@ returns-clause-call g c =
     let here = c.in_ok-rows.ensures.call.kept.in_step in
     then_call (λ rows. fill_anew c.args.object rows) c.in_ok-rows.ensures.call
     (then_call (λ u. by_own (λ session. on_load (fill_row session.mapping c.args.object c.in_ok-rows.rows)))
-    (change_call g.K.Keeper.moment (session_expired c.args.object) {r = Ok tt} c.in_ok-expire.ensures.ok tt c.in_ok-expire.ensures.same (here.0, here.1 ∙ ap length (sym c.in_ok-expire.ensures.scopes)))
+    (change_call g.K.Keeper.moment (session_expired c.args.object) {r = Ok tt} c.in_ok-expire_along.ensures.ok tt c.in_ok-expire_along.ensures.same (here.0, here.1 ∙ ap length (sym c.in_ok-expire_along.ensures.scopes)))
     c.load-2.ensures.call)
 
 pub returns-clause-refused : goal.returns-clause-refused
 returns-clause-refused g c =
-    fill_refused _ (IsRefusedWhole c.args.object) None c.args.session.now c.expire.new.session c.load-2.new.session (g.K.Keeper.moment c.args.keeper.now) (g.K.Keeper.moment c.load.new.keeper) (g.K.Keeper.moment c.load-2.new.keeper) c.load-2.result
+    fill_refused _ (IsRefusedWhole c.args.object) None c.args.session.now c.expire_along.new.session c.load-2.new.session (g.K.Keeper.moment c.args.keeper.now) (g.K.Keeper.moment c.load.new.keeper) (g.K.Keeper.moment c.load-2.new.keeper) c.load-2.result
     c.load-2.ensures.refused

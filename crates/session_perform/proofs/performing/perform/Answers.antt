@@ -259,6 +259,30 @@ pub returns-in-Related-clause-refused : goal.returns-in-Related-clause-refused
 returns-in-Related-clause-refused g c =
     why_case (rules_of c.args.hooks.now) c.args.resolved _ c.args.session.now c.bind_related.new.session (g.K.Keeper.moment c.args.keeper.now) (g.K.Keeper.moment c.bind_related.new.keeper) c.bind_related.result c.in-Related.is (c.bind_related.ensures.refused (rules_of c.args.hooks.now))
 
+pub expunge-requires : goal.expunge-requires
+expunge-requires g c =
+    let ready = subst (λ (line : Resolved). IsReady c.args.session.now line) c.in-Expunge.is c.requires.ready in
+    record { in_step = c.requires.in_step; object = ready }
+
+pub returns-in-Expunge-clause-performed : goal.returns-in-Expunge-clause-performed
+returns-in-Expunge-clause-performed g c = at_case g.K.Keeper.moment (rules_of c.args.hooks.now) c.in-Expunge.is (performs g.K.Keeper.moment c.nothing_told-in-Expunge.ensures c.expunge.ensures.call)
+
+pub returns-in-Expunge-clause-refused : goal.returns-in-Expunge-clause-refused
+returns-in-Expunge-clause-refused g c =
+    told_case (rules_of c.args.hooks.now) c.args.resolved _ c.args.session.now c.expunge.new.session (g.K.Keeper.moment c.args.keeper.now) (g.K.Keeper.moment c.expunge.new.keeper) c.expunge.result c.nothing_told-in-Expunge.result c.in-Expunge.is c.nothing_told-in-Expunge.ensures c.expunge.ensures.refused
+
+pub expire-requires : goal.expire-requires
+expire-requires g c =
+    let ready = subst (λ (line : Resolved). IsReady c.args.session.now line) c.in-Expire.is c.requires.ready in
+    record { in_step = c.requires.in_step; object = ready }
+
+pub returns-in-Expire-clause-performed : goal.returns-in-Expire-clause-performed
+returns-in-Expire-clause-performed g c = at_case g.K.Keeper.moment (rules_of c.args.hooks.now) c.in-Expire.is (performs g.K.Keeper.moment c.nothing_told-in-Expire.ensures c.expire.ensures.call)
+
+pub returns-in-Expire-clause-refused : goal.returns-in-Expire-clause-refused
+returns-in-Expire-clause-refused g c =
+    told_case (rules_of c.args.hooks.now) c.args.resolved _ c.args.session.now c.expire.new.session (g.K.Keeper.moment c.args.keeper.now) (g.K.Keeper.moment c.expire.new.keeper) c.expire.result c.nothing_told-in-Expire.result c.in-Expire.is c.nothing_told-in-Expire.ensures c.expire.ensures.refused
+
 pub refresh-requires : goal.refresh-requires
 refresh-requires g c =
     let ready = subst (λ (line : Resolved). IsReady c.args.session.now line) c.in-Refresh.is c.requires.ready in

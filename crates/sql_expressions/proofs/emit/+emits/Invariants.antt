@@ -1,14 +1,15 @@
-use Rattle.std.proofs.Common.{◌≡◌, ◌+◌, ◌*◌, max, map, drop}
+use Rattle.std.proofs.Common.{◌≡◌, true, ◌+◌, ◌*◌, max, map, drop}
 use Rattle.expr_types.specs.declared.expr.Expr.{size-Expr}
 use Rattle.sql_expressions.specs.Laid.{laid, part}
-use Rattle.sql_text.specs.Written.{put_all, with_leading_separators}
+use Rattle.sql_text.specs.Pages.{put_on}
+use Rattle.sql_text.specs.Written.{with_leading_separators}
 use Rattle.sql_expressions.proofs.emit.+emits.Given as goal
 
 abbrev pub invariant-more_parts-loop-operand : goal.invariant-more_parts-loop-operand
 invariant-more_parts-loop-operand l =
-    (l.writer.dialect ≡ l.initial.writer.dialect)
-    × (put_all l.writer (with_leading_separators l.word (part l.least l.scope) (map (laid l.initial.writer.dialect l.schema) (drop l.operand-index l.operands)))
-    ≡ put_all l.initial.writer (with_leading_separators l.word (part l.least l.scope) (map (laid l.initial.writer.dialect l.schema) l.operands)))
+    l.page.is_whole ≡ true → (l.page.written.dialect ≡ l.initial.page.written.dialect)
+    × (put_on l.page (with_leading_separators l.word (part l.least l.scope) (map (laid l.initial.page.written.dialect l.schema) (drop l.operand-index l.operands)))
+    ≡ put_on l.initial.page (with_leading_separators l.word (part l.least l.scope) (map (laid l.initial.page.written.dialect l.schema) l.operands)))
 
 abbrev pub decreases-expression : goal.decreases-expression
 decreases-expression l = 8 * goal.size-expression l

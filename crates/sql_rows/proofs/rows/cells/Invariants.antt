@@ -1,11 +1,11 @@
-use Rattle.std.proofs.Common.{◌≡◌, drop, codes}
+use Rattle.std.proofs.Common.{◌≡◌, true, drop, codes}
 use denote.Text.{Utf8}
 use denote.Shadow.{shadow}
-use Rattle.sql_text.specs.Written.{put_all}
+use Rattle.sql_text.specs.Pages.{put_on}
 use Rattle.sql_rows.specs.Rows.{row_cells}
 use Rattle.sql_rows.proofs.rows.cells.Given as goal
 
 abbrev pub invariant-loop-column : goal.invariant-loop-column
 invariant-loop-column l =
     shadow (Utf8 l.word)
-    × (put_all l.writer (row_cells l.drawn l.word (drop l.column-index l.columns) l.rest) ≡ put_all l.initial.writer (row_cells l.drawn (codes "(") l.columns l.row))
+    × (l.page.is_whole ≡ true → put_on l.page (row_cells l.drawn l.word (drop l.column-index l.columns) l.rest) ≡ put_on l.initial.page (row_cells l.drawn (codes "(") l.columns l.row))

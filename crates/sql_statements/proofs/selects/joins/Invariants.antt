@@ -1,10 +1,10 @@
-use Rattle.std.proofs.Common.{◌≡◌, ◌∷◌, [], drop}
+use Rattle.std.proofs.Common.{◌≡◌, true, ◌∷◌, [], drop}
 use Rattle.sql_statements.specs.Selects.{joins_pieces}
-use Rattle.sql_text.specs.Written.{put_all}
+use Rattle.sql_text.specs.Pages.{put_on}
 use Rattle.sql_statements.proofs.selects.joins.Given as goal
 
 abbrev pub invariant-loop-next : goal.invariant-loop-next
 invariant-loop-next l =
-    (l.writer.dialect ≡ l.initial.writer.dialect)
-    × (put_all l.writer (joins_pieces l.initial.writer.dialect l.schema l.scope.items (drop l.next-index l.joins))
-    ≡ put_all l.initial.writer (joins_pieces l.initial.writer.dialect l.schema (l.first ∷ []) l.joins))
+    l.page.is_whole ≡ true → (l.page.written.dialect ≡ l.initial.page.written.dialect)
+    × (put_on l.page (joins_pieces l.initial.page.written.dialect l.schema l.scope.items (drop l.next-index l.joins))
+    ≡ put_on l.initial.page (joins_pieces l.initial.page.written.dialect l.schema (l.first ∷ []) l.joins))
